@@ -1,0 +1,3 @@
+pub mod RampLaws
+pub mod DriveLaws
+pub mod Laws

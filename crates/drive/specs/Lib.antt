@@ -1,0 +1,3 @@
+pub mod Ramp
+pub mod Drive
+pub mod Tach

@@ -1,0 +1,22 @@
+use Rattle.num.proofs.Laws.{within-nat, within-never}
+use borrow.Author.Needs.{needs}
+use Rattle.num.proofs.lies_within.Statement.{statement}
+use Rattle.num.proofs.lies_within.Tie as tie
+
+by-sign-requires : tie.Need-by-sign-requires
+by-sign-requires c κs = search needs
+
+enum-known-m : tie.Need-enum-known-m
+enum-known-m c = search needs
+
+enum-told : tie.Need-enum-told
+enum-told c = search needs
+
+returns : tie.Need-returns
+returns c = search within-nat
+
+returns-2 : tie.Need-returns-2
+returns-2 c = search within-never
+
+pub lies-within-spec : {M : Type 1} → statement M
+lies-within-spec = tie.close (tie.spec by-sign-requires enum-known-m enum-told returns returns-2)

@@ -1,0 +1,132 @@
+-- What was written of an event reads back as it. Assumes nothing.
+use Prim.Native.Nat.{ℕ, _+_, _-_}
+use mathlib.Core.Path.{_≡_, refl, sym, ap, _∙_}
+use mathlib.Core.List.{List, [], _∷_, _++_, append-assoc}
+use native.Mathlib.Omega.{arith}
+use mir.Syntax.{w32}
+use mir.Val.{SFits}
+use lib.IntN.{ℤ}
+use lib.ListN.{length, drop, length-append, length-drop}
+use lib.Seq.{take-append-seam, drop-append-seam, drop-drop}
+use borrow.Author.Tests.{lt-ltb, ne-eqb}
+use Rattle.decimal.specs.declared.Decimal.the-variants.{Number}
+use Rattle.decimal.specs.Decimal.{textOf}
+use Rattle.decimal.proofs.Clean.{Clean, clean-append, no-newline}
+use Rattle.decimal.proofs.RoundTrip as decimal
+use Rattle.event.specs.declared.Event.{Event}
+use Rattle.event.specs.declared.Event.the-variants as event
+use Rattle.event.specs.declared.Transfer.the-variants as transfer
+use Rattle.event.specs.declared.Kind.{Kind}
+use Rattle.event.specs.declared.Kind.the-variants as kind
+use Rattle.event.specs.Kinds.{kindOf, numbersOf, eventOf}
+use Rattle.line.specs.Line.{sameBytes, firstLine, lineAt, endAt}
+use Rattle.line.proofs.Bytes.{same-self}
+use Rattle.trace.specs.declared.Word.the-variants.{Known}
+use Rattle.trace.specs.declared.Named.the-variants as named
+use Rattle.trace.specs.declared.Field.the-variants as field
+use Rattle.trace.specs.declared.Reading.the-variants as reading
+use Rattle.trace.specs.Words.{kindText, whoName, argName, valName, kindIn, kindNamed, namedBy, kindLine}
+use Rattle.trace.specs.Trace.{valueOf, givenBy, numberLine, eventAt, ended, eventText}
+use Rattle.trace.proofs.Lines.{lineAs}
+
+-- ---- a line
+
+first-line : (l after : List ℕ) → Clean l → firstLine (ended l ++ after) ≡ l
+unfolding firstLine
+first-line [] after h = refl
+first-line (b ∷ bs) after h = rw (ne-eqb b 10 (h .0)) (ap (λ (l : List ℕ). b ∷ l) (first-line bs after (h .1)))
+
+-- a text in which a line stands at an index
+module _ (text : List ℕ) (at : ℕ) (l after : List ℕ) (stands : drop at text ≡ ended l ++ after) where
+  pub behind : drop (at + length (ended l)) text ≡ after
+  behind = sym (drop-drop (length (ended l)) at text) ∙ rw stands (drop-append-seam (ended l) after)
+
+  -- it is read as what it says, and the next line starts behind it
+  pub line-back : {A B : Type 0} (by : ℕ → A → B) (wrong : B) (of : List ℕ → A) → Clean l → lineAs by wrong of text at ≡ by (at + length (ended l)) (of l)
+  unfolding endAt lineAt
+  line-back by wrong of h =
+      let n : length text - at ≡ length l + 1 + length after = simp (length-drop, length-append) at (ap length stands) in
+      let q : length (ended l) ≡ length l + 1 = length-append l (10 ∷ []) in
+      rw (stands, first-line l after h, lt-ltb (at + length l) (length text) (omega arith), q) (ap (λ (n : ℕ). by n (of l)) (omega arith))
+
+-- ---- the lines of an event
+
+kind-back : (k : Kind) → Clean (kindText k) × (kindNamed (kindText k) ≡ Known k)
+unfolding kindNamed kindIn sameBytes
+kind-back kind.Power = (omega arith, refl)
+kind-back kind.Write = (omega arith, refl)
+kind-back kind.Point = (omega arith, refl)
+kind-back kind.Read = (omega arith, refl)
+kind-back kind.Sample = (omega arith, refl)
+kind-back kind.Tach = (omega arith, refl)
+kind-back kind.Pin = (omega arith, refl)
+kind-back kind.Clock = (omega arith, refl)
+kind-back kind.Period = (omega arith, refl)
+
+value-back : (name : List ℕ) (z : ℤ) → SFits w32 z → valueOf name (name ++ textOf z) ≡ Number z
+unfolding valueOf
+value-back name z f = rw (take-append-seam, same-self, drop-append-seam) (decimal.round-trip z f)
+
+event-back : (e : Event) → eventOf (kindOf e) (numbersOf e) ≡ e
+event-back (event.Power n) = refl
+event-back (event.Bus (transfer.Write n)) = refl
+event-back (event.Bus (transfer.Point n)) = refl
+event-back (event.Bus (transfer.Read n)) = refl
+event-back (event.Sample n) = refl
+event-back (event.Tach n) = refl
+event-back (event.Pin n) = refl
+event-back (event.Clock n) = refl
+event-back (event.Period n) = refl
+
+-- ---- an event
+
+module _ (text : List ℕ) (at : ℕ) (after : List ℕ) where
+  kind-line : (k : Kind) → drop at text ≡ ended (kindText k) ++ after → kindLine text at ≡ named.Kind k (at + length (ended (kindText k)))
+  unfolding kindLine
+  kind-line k stands =
+      line-back text at (kindText k) after stands namedBy named.Wrong kindNamed (kind-back k .0) ∙ rw (kind-back k .1)
+
+  number-line : (name : List ℕ) (z : ℤ) → Clean name → SFits w32 z → drop at text ≡ ended (name ++ textOf z) ++ after
+      → numberLine name text at ≡ field.Number z (at + length (ended (name ++ textOf z)))
+  unfolding numberLine
+  number-line name z c f stands =
+      line-back text at (name ++ textOf z) after stands givenBy field.Wrong (valueOf name) (clean-append name (textOf z) c (no-newline z)) ∙ rw (value-back name z f)
+
+four : (a b c d after : List ℕ) → (a ++ (b ++ (c ++ d))) ++ after ≡ a ++ (b ++ (c ++ (d ++ after)))
+four a b c d after = simp append-assoc
+
+four-lengths : (a b c d : List ℕ) → length (a ++ (b ++ (c ++ d))) ≡ length a + (length b + (length c + length d))
+four-lengths a b c d = simp length-append
+
+-- an event whose text stands at an index is read there, and the next one starts behind it
+pub read-back : (text : List ℕ) (at : ℕ) (e : Event) (after : List ℕ) → drop at text ≡ eventText e ++ after
+    → SFits w32 (numbersOf e .who) → SFits w32 (numbersOf e .arg) → SFits w32 (numbersOf e .val) → eventAt text at ≡ reading.Event e (at + length (eventText e))
+unfolding eventAt eventText
+read-back text at e after stands f f′ f″ =
+    let kind : List ℕ = kindText (kindOf e) in
+    let who : List ℕ = whoName ++ textOf (numbersOf e .who) in
+    let arg : List ℕ = argName ++ textOf (numbersOf e .arg) in
+    let val : List ℕ = valName ++ textOf (numbersOf e .val) in
+    let after3 : List ℕ = ended val ++ after in
+    let after2 : List ℕ = ended arg ++ after3 in
+    let after1 : List ℕ = ended who ++ after2 in
+    let at1 : ℕ = at + length (ended kind) in
+    let at2 : ℕ = at1 + length (ended who) in
+    let at3 : ℕ = at2 + length (ended arg) in
+    let stands0 = stands ∙ four (ended kind) (ended who) (ended arg) (ended val) after in
+    let stands1 = behind text at kind after1 stands0 in
+    let stands2 = behind text at1 who after2 stands1 in
+    let stands3 = behind text at2 arg after3 stands2 in
+    rw (
+      kind-line text at after1 (kindOf e) stands0,
+      number-line text at1 after2 whoName (numbersOf e .who) (omega arith) f stands1,
+      number-line text at2 after3 argName (numbersOf e .arg) (omega arith) f′ stands2,
+      number-line text at3 after valName (numbersOf e .val) (omega arith) f″ stands3,
+      four-lengths (ended kind) (ended who) (ended arg) (ended val),
+      event-back e,
+    )
+    (ap (λ (n : ℕ). reading.Event e n) (omega arith))
+
+pub round-trip : (before after : List ℕ) (e : Event) → SFits w32 (numbersOf e .who) → SFits w32 (numbersOf e .arg) → SFits w32 (numbersOf e .val)
+    → eventAt (before ++ (eventText e ++ after)) (length before) ≡ reading.Event e (length before + length (eventText e))
+round-trip before after e = read-back (before ++ (eventText e ++ after)) (length before) e after (drop-append-seam before (eventText e ++ after))

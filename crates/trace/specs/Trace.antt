@@ -1,0 +1,73 @@
+-- Document 01, "Trace text and report": four lines an event, kind=, who=, arg=, val=, each ended by a newline.
+use Prim.Native.Nat.{ℕ, _+_}
+use mathlib.Core.List.{List, [], _∷_, _++_}
+use mathlib.Core.Bool.{cond}
+use lib.Dec.{ltb}
+use lib.IntN.{ℤ}
+use lib.ListN.{length, take, drop}
+use Rattle.decimal.specs.declared.Decimal.{Decimal}
+use Rattle.decimal.specs.declared.Decimal.the-variants.{Number, Malformed}
+use Rattle.decimal.specs.Decimal.{parseOf, textOf}
+use Rattle.event.specs.declared.Event.{Event}
+use Rattle.event.specs.declared.Kind.{Kind}
+use Rattle.event.specs.Kinds.{kindOf, numbersOf, eventOf}
+use Rattle.line.specs.Line.{sameBytes, lineAt, endAt}
+use Rattle.trace.specs.Words.{kindText, whoName, argName, valName, kindLine}
+use Rattle.trace.specs.declared.Named.{Named}
+use Rattle.trace.specs.declared.Named.the-variants as named
+use Rattle.trace.specs.declared.Field.{Field}
+use Rattle.trace.specs.declared.Field.the-variants as field
+use Rattle.trace.specs.declared.Reading.{Reading}
+use Rattle.trace.specs.declared.Reading.the-variants as reading
+
+-- ---- reading
+
+-- the decimal behind a name on a line without its newline
+unfoldable pub valueOf : (name line : List ℕ) → Decimal
+unfolding sameBytes parseOf
+valueOf name line = cond (sameBytes (take (length name) line) name) (parseOf (drop (length name) line)) Malformed
+
+abbrev pub givenBy : (next : ℕ) → Decimal → Field
+givenBy next (Number z) = field.Number z next
+givenBy next Malformed = field.Wrong
+
+-- the line at an index as a name and a decimal, ended by a newline
+unfoldable pub numberLine : (name text : List ℕ) → ℕ → Field
+unfolding valueOf lineAt endAt
+numberLine name text at = cond (ltb (endAt text at) (length text)) (givenBy (endAt text at + 1) (valueOf name (lineAt text at))) field.Wrong
+
+-- the four lines, each read where the one before it ended; a wrong one by its place from 0 and its start
+abbrev pub afterVal : (start : ℕ) → Kind → (who arg : ℤ) → Field → Reading
+afterVal start k who arg (field.Number val next) = reading.Event (eventOf k (record { who = who; arg = arg; val = val })) next
+afterVal start k who arg field.Wrong = reading.Wrong 3 start
+
+abbrev pub afterArg : List ℕ → (start : ℕ) → Kind → (who : ℤ) → Field → Reading
+afterArg text start k who (field.Number arg next) = afterVal next k who arg (numberLine valName text next)
+afterArg text start k who field.Wrong = reading.Wrong 2 start
+
+abbrev pub afterWho : List ℕ → (start : ℕ) → Kind → Field → Reading
+afterWho text start k (field.Number who next) = afterArg text next k who (numberLine argName text next)
+afterWho text start k field.Wrong = reading.Wrong 1 start
+
+abbrev pub afterKind : List ℕ → (start : ℕ) → Named → Reading
+afterKind text start (named.Kind k next) = afterWho text next k (numberLine whoName text next)
+afterKind text start named.Wrong = reading.Wrong 0 start
+
+unfoldable pub eventAt : List ℕ → ℕ → Reading
+unfolding kindLine numberLine
+eventAt text at = afterKind text at (kindLine text at)
+
+-- ---- writing
+
+-- a line: what it says, and its newline
+abbrev pub ended : List ℕ → List ℕ
+ended line = line ++ (10 ∷ [])
+
+-- the four lines of an event
+unfoldable pub eventText : Event → List ℕ
+unfolding textOf
+eventText e =
+    ended (kindText (kindOf e))
+    ++ (ended (whoName ++ textOf (numbersOf e .who))
+    ++ (ended (argName ++ textOf (numbersOf e .arg))
+    ++ ended (valName ++ textOf (numbersOf e .val))))

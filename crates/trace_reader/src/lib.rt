@@ -1,0 +1,38 @@
+// A reader of trace text that holds the lent text and its place in it.
+// Thin: each function takes the struct apart; whoever has a plain slice calls `trace::event_at` and `line::line_at`.
+use trace::Reading;
+ghost use mathlib.Core.Path.{_≡_};
+ghost use Rattle.line.specs.Line.{lineAt};
+ghost use Rattle.trace.specs.Trace.{eventAt};
+
+pub struct TraceReader<'a> {
+    pub text: &'a [u8],
+    pub at: usize,
+}
+
+pub fn new<'a>(text: &'a [u8]) -> TraceReader<'a>
+    ensures { λ r. ⌜ (r .text ≡ text .entry) × (r .at ≡ 0) ⌝ }
+{
+    TraceReader { text, at: 0 }
+}
+
+// The event at the reader's place and where the next one starts; or the first wrong line.
+pub fn next<'a>(r: TraceReader<'a>) -> Reading
+    ensures { λ s. ⌜ s ≡ eventAt (now (r .entry .text)) (r .entry .at) ⌝ }
+{
+    trace::event_at(r.text, r.at)
+}
+
+// The same text at another place.
+pub fn moved<'a>(r: TraceReader<'a>, at: usize) -> TraceReader<'a>
+    ensures { λ s. ⌜ (s .text ≡ r .entry .text) × (s .at ≡ at) ⌝ }
+{
+    TraceReader { text: r.text, at }
+}
+
+// The line at the reader's place, as a part of the text that it holds.
+pub fn current<'a>(r: TraceReader<'a>) -> &'a [u8]
+    ensures { λ s. ⌜ now s ≡ lineAt (now (r .entry .text)) (r .entry .at) ⌝ }
+{
+    line::line_at(r.text, r.at)
+}

@@ -1,0 +1,41 @@
+use Rattle.trace_writer.proofs.Laws.{digits-fit, number-fits, number-end, number-put}
+use borrow.Author.Needs.{needs}
+use Rattle.trace_writer.proofs.number_line.Statement.{statement}
+use Rattle.trace_writer.proofs.number_line.Tie as tie
+
+put-bytes-requires : tie.Need-put-bytes-requires
+put-bytes-requires c κs = search needs
+
+add-a : tie.Need-add-a
+add-a c = search needs
+
+put-signed-requires : tie.Need-put-signed-requires
+put-signed-requires c κs = search needs
+
+add-e : tie.Need-add-e
+add-e c = search digits-fit
+
+put-byte-requires : tie.Need-put-byte-requires
+put-byte-requires c κs = search needs
+
+add-result : tie.Need-add-result
+add-result c = search number-fits
+
+same-length : tie.Need-same-length
+same-length c = search needs
+
+returns : tie.Need-returns
+returns c = (search number-end, search number-put)
+
+pub number-line-spec : {M : Type 1} → statement M
+number-line-spec =
+    tie.close
+    (tie.spec
+    put-bytes-requires
+    add-a
+    put-signed-requires
+    add-e
+    put-byte-requires
+    add-result
+    same-length
+    returns)
