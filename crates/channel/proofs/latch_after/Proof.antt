@@ -1,0 +1,34 @@
+use Rattle.channel.specs.Channels.{latchAfter}
+use borrow.Author.Needs.{needs}
+use Rattle.channel.proofs.latch_after.Statement.{statement}
+use Rattle.channel.proofs.latch_after.Tie as tie
+
+is-fresh-requires : tie.Need-is-fresh-requires
+is-fresh-requires c κs = search needs
+
+is-sample-requires : tie.Need-is-sample-requires
+is-sample-requires c κs = search needs
+
+measured-requires : tie.Need-measured-requires
+measured-requires c κs = search needs
+
+latched-requires : tie.Need-latched-requires
+latched-requires c κs = search needs
+
+flag-after-requires : tie.Need-flag-after-requires
+flag-after-requires c κs = search needs
+
+returns : tie.Need-returns
+unfolding latchAfter
+returns c = cc
+
+pub latch-after-spec : {M : Type 1} → statement M
+latch-after-spec =
+    tie.close
+    (tie.spec
+    is-fresh-requires
+    is-sample-requires
+    measured-requires
+    latched-requires
+    flag-after-requires
+    returns)

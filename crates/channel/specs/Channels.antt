@@ -1,0 +1,86 @@
+-- Document 01, "Temperatures, latches and cards", rules 1 to 3, 5 and 7, and "Duty in slots", rule 1: a channel after an event.
+use Prim.Native.Nat.{ℕ}
+use mathlib.Core.Bool.{Bool, true, false, cond, not, _&&_, _||_}
+use Rattle.part.specs.declared.ChannelId.{ChannelId}
+use Rattle.part.specs.declared.ChannelId.the-variants.{Local, Remote1, Remote2}
+use Rattle.part.specs.declared.FanId.{FanId}
+use Rattle.part.specs.declared.FanId.the-variants.{One, Two}
+use Rattle.reading.specs.Limits.{latchedOf, runningOf, overOf, underOf}
+use Rattle.demand.specs.Demand.{tminOf}
+use Rattle.act.specs.declared.Act.{Act}
+use Rattle.act.specs.Acts.{samples, fresh, reads, markAfter}
+use Rattle.stored.specs.Stored.{statusAt, channelEnabled}
+use Rattle.stored.specs.declared.Limits.{Limits}
+use Rattle.stored.specs.declared.Settings.{Settings}
+use Rattle.channel.specs.declared.Channel.{Channel}
+use Rattle.channel.specs.declared.Channels.{Channels}
+
+-- the reading that a sample makes
+abbrev pub measuredOf : Act → ℕ
+measuredOf r = r .reading
+
+-- 1: the last reading; 0 after power
+unfoldable pub readingAfter : ChannelId → Act → ℕ → ℕ
+readingAfter c r was = cond (fresh r) 1024 (cond (samples c r) (measuredOf r) was)
+
+-- 2: the latch, by the channel's THERM limit
+unfoldable pub latchAfter : ChannelId → (therm : ℕ) → Act → Bool → Bool
+latchAfter c therm r was = cond (fresh r) false (cond (samples c r) (latchedOf was therm (measuredOf r)) was)
+
+-- duty 1: the run flag, by the channel's Tmin
+unfoldable pub flagAfter : ChannelId → (control : ℕ) → Act → Bool → Bool
+flagAfter c control r was = cond (fresh r) false (cond (samples c r) (runningOf was (tminOf control) (measuredOf r)) was)
+
+-- 4: the status registers, named by their fan, that hold a channel's high and low bits, and its THERM bit
+abbrev pub limitBitsIn : ChannelId → FanId
+limitBitsIn Local = One
+limitBitsIn Remote1 = One
+limitBitsIn Remote2 = Two
+
+abbrev pub thermBitIn : ChannelId → FanId
+thermBitIn Local = Two
+thermBitIn Remote1 = One
+thermBitIn Remote2 = Two
+
+-- 5, 7: what clears a bit: a start afresh, a read of its register, the channel's enable bit being 0
+abbrev pub clearsBit : FanId → (enabled : Bool) (pointer : ℕ) → Act → Bool
+clearsBit f enabled pointer r = fresh r || (reads (statusAt f) pointer r || not enabled)
+
+-- 3: the high and low bits
+unfoldable pub overAfter : ChannelId → (high : ℕ) (enabled : Bool) (pointer : ℕ) → Act → Bool → Bool
+overAfter c high enabled pointer r was =
+    markAfter (samples c r && (enabled && overOf high (measuredOf r))) (clearsBit (limitBitsIn c) enabled pointer r) was
+
+unfoldable pub underAfter : ChannelId → (low : ℕ) (enabled : Bool) (pointer : ℕ) → Act → Bool → Bool
+underAfter c low enabled pointer r was =
+    markAfter (samples c r && (enabled && underOf low (measuredOf r))) (clearsBit (limitBitsIn c) enabled pointer r) was
+
+-- 3: the THERM bit: a latch going from off to on
+unfoldable pub hotAfter : ChannelId → (enabled before after : Bool) (pointer : ℕ) → Act → Bool → Bool
+hotAfter c enabled before after pointer r was =
+    markAfter (samples c r && (enabled && (not before && after))) (clearsBit (thermBitIn c) enabled pointer r) was
+
+-- the channel: its limits and enable bit as they stand after the event, the pointer as it stood before it
+unfoldable pub channelAfter : ChannelId → Limits → (enabled : Bool) (pointer : ℕ) → Act → Channel → Channel
+channelAfter c l enabled pointer r was =
+    record {
+      reading = readingAfter c r (was .reading);
+      latch = latchAfter c (l .therm) r (was .latch);
+      flag = flagAfter c (l .control) r (was .flag);
+      over = overAfter c (l .high) enabled pointer r (was .over);
+      under = underAfter c (l .low) enabled pointer r (was .under);
+      hot = hotAfter c enabled (was .latch) (latchAfter c (l .therm) r (was .latch)) pointer r (was .hot);
+    }
+
+-- the three channels, under the registers as they stand after the event
+unfoldable pub channelsAfter : Settings → (pointer : ℕ) → Act → Channels → Channels
+channelsAfter s pointer r cs =
+    record {
+      local = channelAfter Local (s .local) (channelEnabled Local (s .config2)) pointer r (cs .local);
+      remote1 = channelAfter Remote1 (s .remote1) (channelEnabled Remote1 (s .config2)) pointer r (cs .remote1);
+      remote2 = channelAfter Remote2 (s .remote2) (channelEnabled Remote2 (s .config2)) pointer r (cs .remote2);
+    }
+
+-- 2: THERM is asserted while a latch is on
+abbrev pub thermOf : Channels → Bool
+thermOf cs = cs .local .latch || (cs .remote1 .latch || cs .remote2 .latch)

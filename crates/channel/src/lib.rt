@@ -1,0 +1,186 @@
+// The temperature channels, and what an accepted event makes of them: reading, THERM latch, run flag, status bits.
+// One function serves all three.
+use act::Act;
+use part::ChannelId;
+use part::FanId;
+use stored::Limits;
+use stored::Settings;
+ghost use mathlib.Core.Path.{_≡_};
+ghost use mathlib.Core.Bool.{not, _&&_};
+ghost use Rattle.demand.specs.Demand.{tminOf};
+ghost use Rattle.channel.specs.Channels.{measuredOf, readingAfter, latchAfter, flagAfter, limitBitsIn, thermBitIn, clearsBit, overAfter, underAfter, hotAfter, channelAfter, channelsAfter, thermOf};
+
+// The last reading, the THERM latch and the run flag; then the high, low and THERM status bits.
+pub struct Channel {
+    pub reading: u16,
+    pub latch: bool,
+    pub flag: bool,
+    pub over: bool,
+    pub under: bool,
+    pub hot: bool,
+}
+
+pub struct Channels {
+    pub local: Channel,
+    pub remote1: Channel,
+    pub remote2: Channel,
+}
+
+// The reading that a sample makes.
+fn measured(r: Act) -> u16
+    ensures { λ t. ⌜ t ≡ measuredOf r ⌝ }
+{
+    r.reading
+}
+
+fn reading_after(c: ChannelId, r: Act, was: u16) -> u16
+    ensures { λ t. ⌜ t ≡ readingAfter c r was ⌝ }
+{
+    if act::is_fresh(r) {
+        1024
+    } else if act::is_sample(c, r) {
+        measured(r)
+    } else {
+        was
+    }
+}
+
+fn latch_after(c: ChannelId, therm: u8, r: Act, was: bool) -> bool
+    ensures { λ b. ⌜ b ≡ latchAfter c therm r was ⌝ }
+{
+    act::flag_after(
+        act::is_fresh(r),
+        act::is_sample(c, r),
+        reading::latched(was, therm, measured(r)),
+        was,
+    )
+}
+
+fn tmin(control: u8) -> u8
+    ensures { λ t. ⌜ t ≡ tminOf control ⌝ }
+{
+    4 * (control / 8)
+}
+
+fn flag_after(c: ChannelId, control: u8, r: Act, was: bool) -> bool
+    ensures { λ b. ⌜ b ≡ flagAfter c control r was ⌝ }
+{
+    act::flag_after(
+        act::is_fresh(r),
+        act::is_sample(c, r),
+        reading::running(was, tmin(control), measured(r)),
+        was,
+    )
+}
+
+// The status register, by its fan, of a channel's high and low bits, and of its THERM bit.
+fn limit_bits_in(c: ChannelId) -> FanId
+    ensures { λ f. ⌜ f ≡ limitBitsIn c ⌝ }
+{
+    match c {
+        ChannelId::Local => FanId::One,
+        ChannelId::Remote1 => FanId::One,
+        ChannelId::Remote2 => FanId::Two,
+    }
+}
+
+fn therm_bit_in(c: ChannelId) -> FanId
+    ensures { λ f. ⌜ f ≡ thermBitIn c ⌝ }
+{
+    match c {
+        ChannelId::Local => FanId::Two,
+        ChannelId::Remote1 => FanId::One,
+        ChannelId::Remote2 => FanId::Two,
+    }
+}
+
+fn clears_bit(f: FanId, enabled: bool, pointer: u8, r: Act) -> bool
+    ensures { λ b. ⌜ b ≡ clearsBit f enabled pointer r ⌝ }
+{
+    act::is_fresh(r) | (act::is_read(stored::status_at(f), pointer, r) | !enabled)
+}
+
+fn over_after(c: ChannelId, high: u8, enabled: bool, pointer: u8, r: Act, was: bool) -> bool
+    ensures { λ b. ⌜ b ≡ overAfter c high enabled pointer r was ⌝ }
+{
+    let sets = act::is_sample(c, r) & (enabled & reading::over(high, measured(r)));
+    act::mark_after(sets, clears_bit(limit_bits_in(c), enabled, pointer, r), was)
+}
+
+fn under_after(c: ChannelId, low: u8, enabled: bool, pointer: u8, r: Act, was: bool) -> bool
+    ensures { λ b. ⌜ b ≡ underAfter c low enabled pointer r was ⌝ }
+{
+    let sets = act::is_sample(c, r) & (enabled & reading::under(low, measured(r)));
+    act::mark_after(sets, clears_bit(limit_bits_in(c), enabled, pointer, r), was)
+}
+
+fn hot_after(
+    c: ChannelId,
+    enabled: bool,
+    before: bool,
+    after: bool,
+    pointer: u8,
+    r: Act,
+    was: bool,
+) -> bool
+    ensures { λ b. ⌜ b ≡ hotAfter c enabled before after pointer r was ⌝ }
+{
+    let sets = act::is_sample(c, r) & (enabled & (!before & after));
+    act::mark_after(sets, clears_bit(therm_bit_in(c), enabled, pointer, r), was)
+}
+
+fn channel_after(
+    c: ChannelId,
+    l: Limits,
+    enabled: bool,
+    pointer: u8,
+    r: Act,
+    was: Channel,
+) -> Channel
+    ensures { λ b. ⌜ b ≡ channelAfter c l enabled pointer r was ⌝ }
+{
+    let latch = latch_after(c, l.therm, r, was.latch);
+    Channel {
+        reading: reading_after(c, r, was.reading),
+        latch,
+        flag: flag_after(c, l.control, r, was.flag),
+        over: over_after(c, l.high, enabled, pointer, r, was.over),
+        under: under_after(c, l.low, enabled, pointer, r, was.under),
+        hot: hot_after(c, enabled, was.latch, latch, pointer, r, was.hot),
+    }
+}
+
+// The three channels, under the registers as they stand after the event; the pointer as it stood before it.
+pub fn channels_after(s: Settings, pointer: u8, r: Act, cs: Channels) -> Channels
+    ensures { λ b. ⌜ b ≡ channelsAfter s pointer r cs ⌝ }
+{
+    let enabled0 = stored::channel_enabled(ChannelId::Local, s.config2);
+    let enabled1 = stored::channel_enabled(ChannelId::Remote1, s.config2);
+    let enabled2 = stored::channel_enabled(ChannelId::Remote2, s.config2);
+    Channels {
+        local: channel_after(ChannelId::Local, s.local, enabled0, pointer, r, cs.local),
+        remote1: channel_after(
+            ChannelId::Remote1,
+            s.remote1,
+            enabled1,
+            pointer,
+            r,
+            cs.remote1,
+        ),
+        remote2: channel_after(
+            ChannelId::Remote2,
+            s.remote2,
+            enabled2,
+            pointer,
+            r,
+            cs.remote2,
+        ),
+    }
+}
+
+// Whether THERM is asserted.
+pub fn therm(cs: Channels) -> bool
+    ensures { λ b. ⌜ b ≡ thermOf cs ⌝ }
+{
+    cs.local.latch | (cs.remote1.latch | cs.remote2.latch)
+}

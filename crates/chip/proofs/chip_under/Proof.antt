@@ -1,0 +1,21 @@
+use Rattle.chip.specs.Chips.{chipUnder}
+use borrow.Author.Needs.{needs}
+use Rattle.chip.proofs.chip_under.Statement.{statement}
+use Rattle.chip.proofs.chip_under.Tie as tie
+
+channels-after-requires : tie.Need-channels-after-requires
+channels-after-requires c κs = search needs
+
+front-after-requires : tie.Need-front-after-requires
+front-after-requires c κs = search needs
+
+chip-with-requires : tie.Need-chip-with-requires
+chip-with-requires c κs = search needs
+
+returns : tie.Need-returns
+unfolding chipUnder
+returns c = rw (c .chip-with .ensures, c .before .front-after .ensures, c .before .before .channels-after .ensures)
+
+pub chip-under-spec : {M : Type 1} → statement M
+chip-under-spec =
+    tie.close (tie.spec channels-after-requires front-after-requires chip-with-requires returns)

@@ -1,0 +1,90 @@
+-- Document 01, "Duty in slots" and "Tach counts": a fan after an event.
+use Prim.Native.Nat.{ℕ}
+use mathlib.Core.Bool.{Bool, true, false, cond, not, _&&_, _||_}
+use Rattle.part.specs.declared.ChannelId.{ChannelId}
+use Rattle.part.specs.declared.FanId.{FanId}
+use Rattle.event.specs.declared.Kind.the-variants as kind
+use Rattle.demand.specs.Demand.{tminOf, rangeOf, demandOf, codeOf, targetOf, overriddenOf}
+use Rattle.drive.specs.Ramp.{rateOf}
+use Rattle.drive.specs.Drive.{spinUpOf, drivenOf, alarmOf}
+use Rattle.drive.specs.Tach.{judgedOf, failedOf, runOf}
+use Rattle.drive.specs.declared.Setting.{Setting}
+use Rattle.drive.specs.declared.Beat.{Beat}
+use Rattle.drive.specs.declared.Drive.{Drive}
+use Rattle.act.specs.declared.Act.{Act}
+use Rattle.act.specs.Acts.{isA, measures, periods, fresh, reads, markAfter}
+use Rattle.stored.specs.Stored.{statusAt, outputEnabled, tachEnabled, filterEnabled}
+use Rattle.stored.specs.declared.Limits.{Limits}
+use Rattle.stored.specs.declared.FanBytes.{FanBytes}
+use Rattle.stored.specs.declared.Settings.{Settings}
+use Rattle.channel.specs.declared.Channel.{Channel}
+use Rattle.channel.specs.declared.Channels.{Channels}
+use Rattle.channel.specs.Channels.{thermOf}
+use Rattle.fan.specs.declared.Fan.{Fan}
+
+-- what a channel demands of a fan
+abbrev pub channelDemand : FanId → (speeds : ℕ) → Limits → Channel → ℕ
+channelDemand f speeds l ch = demandOf (ch .flag) (codeOf f speeds) (tminOf (l .control)) (rangeOf (l .control)) (ch .reading)
+
+-- duty 3: the target, from the registers and channels as they stand after the event
+unfoldable pub fanTarget : FanId → Settings → Channels → ℕ
+fanTarget f s cs =
+    targetOf (s .config1) (s .speeds) f
+    (channelDemand f (s .speeds) (s .local) (cs .local))
+    (channelDemand f (s .speeds) (s .remote1) (cs .remote1))
+    (channelDemand f (s .speeds) (s .remote2) (cs .remote2))
+
+-- duty 4
+abbrev pub overrideOf : (low : Bool) → Settings → Channels → Bool
+overrideOf low s cs = overriddenOf low (s .behaviour) (thermOf cs)
+
+-- what registers, pin and channels ask of a fan
+unfoldable pub settingOf : FanId → (low : Bool) → Settings → FanBytes → Channels → Setting
+settingOf f low s b cs =
+    record {
+      enabled = outputEnabled f (s .config2);
+      overridden = overrideOf low s cs;
+      filtered = filterEnabled f (s .filter);
+      target = fanTarget f s cs;
+      rate = rateOf (s .filter);
+      «spin_up» = spinUpOf (b .characteristics);
+    }
+
+-- a fan before which nothing was: "duties count as 0 before" power and reset (temperatures 9)
+abbrev pub stopped : Fan
+stopped = record { drive = record { duty = 0; left = 0 }; run = 0; alarmed = false; alarm = false; fault = false }
+
+abbrev pub priorFan : Act → Fan → Fan
+priorFan r was = cond (fresh r) stopped was
+
+-- tach counts: whether the event is a judged count of the fan, and a failure
+abbrev pub judgesFan : FanId → (tach : Bool) → Act → (duty left : ℕ) → Bool
+judgesFan f tach r duty left = measures f r && judgedOf tach duty left
+
+abbrev pub failsFan : FanId → (tach : Bool) (limit : ℕ) → Act → (duty left : ℕ) → Bool
+failsFan f tach limit r duty left = failedOf (judgesFan f tach r duty left) limit (r .val)
+
+-- what the event is to the fan
+abbrev pub beatOf : FanId → (failed : Bool) → Act → Beat
+beatOf f failed r = record { clock = isA kind.Clock r; period = periods f r; failed = failed }
+
+-- the run of failures: ended by the tach bit being 0 too
+abbrev pub fanRun : (tach judged failed : Bool) → ℕ → ℕ
+fanRun tach judged failed was = cond tach (runOf judged failed was) 0
+
+-- the fan after an event: s is what is asked of it then, w the fan before it
+unfoldable pub fanAfter : FanId → Setting → (tach : Bool) (limit pointer : ℕ) → Act → Fan → Fan
+fanAfter f s tach limit pointer r w =
+    record {
+      drive = drivenOf s (beatOf f (failsFan f tach limit r (w .drive .duty) (w .drive .left)) r) (w .drive);
+      run = fanRun tach (judgesFan f tach r (w .drive .duty) (w .drive .left)) (failsFan f tach limit r (w .drive .duty) (w .drive .left)) (w .run);
+      alarmed = alarmOf s;
+      -- duty 7: entering alarm speed sets the bit
+      alarm = markAfter (alarmOf s && not (w .alarmed)) (reads (statusAt f) pointer r) (w .alarm);
+      fault = markAfter (failsFan f tach limit r (w .drive .duty) (w .drive .left)) (reads (statusAt f) pointer r) (w .fault);
+    }
+
+-- a fan, under registers, pin and channels as they stand after the event
+unfoldable pub fanIn : FanId → (low : Bool) → Settings → FanBytes → Channels → (pointer : ℕ) → Act → Fan → Fan
+fanIn f low s b cs pointer r was =
+    fanAfter f (settingOf f low s b cs) (tachEnabled f (s .config2)) (b .limit) pointer r (priorFan r was)

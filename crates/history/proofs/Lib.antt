@@ -1,0 +1,9 @@
+pub mod HistoryLaws
+pub mod PowerLaws
+pub mod SpinLaws
+pub mod StretchLaws
+pub mod Demand1Laws
+pub mod Demand3Laws
+pub mod StateLaws
+pub mod ValueLaws
+pub mod Agree

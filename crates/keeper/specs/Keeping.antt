@@ -1,0 +1,96 @@
+-- The keeper: off, or a chip that has power. What each event is answered, and what is shown.
+use Prim.Native.Nat.{ℕ, zero, suc}
+use mathlib.Core.Bool.{Bool, true, false, cond}
+use mathlib.Core.List.{List, [], _∷_}
+use lib.Dec.{ltb}
+use lib.ListN.{length}
+use lib.Seq.{sets}
+use Rattle.event.specs.declared.Event.{Event}
+use Rattle.event.specs.declared.Kind.the-variants as kind
+use Rattle.event.specs.declared.Answer.{Answer}
+use Rattle.event.specs.declared.Answer.the-variants.{Done, NoPower, WrongSize}
+use Rattle.event.specs.declared.Shown.{Shown}
+use Rattle.request.specs.Replies.{verdictOf}
+use Rattle.request.specs.declared.Verdict.{Verdict}
+use Rattle.request.specs.declared.Verdict.the-variants.{Accept, Refuse}
+use Rattle.act.specs.Acts.{isA, actOf}
+use Rattle.act.specs.declared.Act.{Act}
+use Rattle.stored.specs.Stored.{monitors}
+use Rattle.stored.specs.declared.Limits.{Limits}
+use Rattle.stored.specs.declared.FanBytes.{FanBytes}
+use Rattle.channel.specs.declared.Channel.{Channel}
+use Rattle.fan.specs.Fans.{stopped}
+use Rattle.chip.specs.Chips.{chipAfter}
+use Rattle.chip.specs.declared.Chip.{Chip}
+use Rattle.output.specs.Outputs as output
+use Rattle.keeper.specs.declared.Keeper.{Keeper}
+use Rattle.keeper.specs.declared.Keeper.the-variants.{Off, On}
+use Rattle.keeper.specs.declared.Answered.{Answered}
+
+-- what power starts from: it starts afresh, whatever was
+abbrev pub noLimits : Limits
+noLimits = record { offset = 0; high = 0; low = 0; therm = 0; control = 0 }
+
+abbrev pub noBytes : FanBytes
+noBytes = record { speed = 0; limit = 0; characteristics = 0 }
+
+abbrev pub noChannel : Channel
+noChannel = record { reading = 0; latch = false; flag = false; over = false; under = false; hot = false }
+
+abbrev pub blank : Chip
+blank =
+    record {
+      front = record { address = 0; pointer = 0; low = false; error1 = false; error2 = false; pulled = false };
+      settings =
+          record {
+            config1 = 0;
+            config2 = 0;
+            test = 0;
+            speeds = 0;
+            filter = 0;
+            behaviour = 0;
+            local = noLimits;
+            remote1 = noLimits;
+            remote2 = noLimits;
+            fan1 = noBytes;
+            fan2 = noBytes;
+          };
+      channels = record { local = noChannel; remote1 = noChannel; remote2 = noChannel };
+      fan1 = stopped;
+      fan2 = stopped;
+    }
+
+-- only a read returns data: that of the register at the pointer
+abbrev pub dataFor : Chip → Act → ℕ
+dataFor c a = cond (isA kind.Read a) (output.valueAt c (c .front .pointer)) 0
+
+abbrev pub acceptedBy : Chip → Act → Answered
+acceptedBy c a = record { keeper = On (chipAfter a c); answer = Done (dataFor c a) }
+
+-- a refusal leaves the keeper; else the chip moves
+abbrev pub decided : Keeper → Chip → Verdict → Answered
+decided k c (Refuse a) = record { keeper = k; answer = a }
+decided k c (Accept r) = acceptedBy c (actOf r)
+
+unfoldable pub answerOf : Keeper → Event → Answered
+answerOf Off e = decided Off blank (verdictOf false 0 false e)
+answerOf (On c) e = decided (On c) c (verdictOf true (c .front .address) (monitors (c .settings)) e)
+
+-- before the first power all outputs are 0
+unfoldable pub shownBy : Keeper → Shown
+shownBy Off = record { int = 0; therm = 0; fault = 0; duty1 = 0; duty2 = 0 }
+shownBy (On c) = output.shownOf c
+
+-- the register image: place a holds what a read of a would return
+unfoldable pub valuesFrom : (from count : ℕ) → Chip → List ℕ
+valuesFrom a zero c = []
+valuesFrom a (suc n) c = output.valueAt c a ∷ valuesFrom (suc a) n c
+
+unfoldable pub imageAnswer : Keeper → (buffer : List ℕ) → Answer
+imageAnswer Off buffer = NoPower
+imageAnswer (On c) buffer = cond (ltb (length buffer) 64) WrongSize (Done 0)
+
+-- with 1 or 11 no byte of the buffer changes; bytes after the 64th stay
+unfoldable pub imageBuffer : Keeper → List ℕ → List ℕ
+imageBuffer Off buffer = buffer
+imageBuffer (On c) buffer = cond (ltb (length buffer) 64) buffer (sets buffer 0 (valuesFrom 0 64 c))

@@ -1,0 +1,49 @@
+use native.Mathlib.Omega.{arith}
+use Rattle.decimal.proofs.Laws.{small-length, decimal-length, word-width}
+use Prim.Native.Nat.{ℕ, _<_}
+use borrow.Fn.Kinds.{In}
+use borrow.Fn.PlainCycle.{Measures, is, falls, and}
+use Rattle.measure.proofs.digits.Reads as digits
+use Rattle.measure.proofs.digits.Kinds as digits-kinds
+use Rattle.measure.proofs.+digits.Lts-digits as digits-lts
+use Rattle.measure.proofs.+digits.{statement}
+use Rattle.measure.proofs.+digits.Tie.{close}
+
+abbrev μ-digits : Measures 0 digits-kinds.ps ℕ
+μ-digits κs a = a .0
+
+abbrev digits-at : ℕ → In 0 digits-kinds.ps
+digits-at t = and 0 digits-kinds.ps (is 0 digits-kinds.ps μ-digits t) digits.Pre
+
+abbrev digits-below : ℕ → In 0 digits-kinds.ps
+digits-below t = and 0 digits-kinds.ps (falls 0 digits-kinds.ps _<_ μ-digits t) digits.Pre
+
+digits-returns :
+    (t : ℕ) → digits-lts.Need-returns (digits-below t, digits.Post) (digits-at t) digits.Post
+digits-returns t c = omega (arith, small-length _ (c .if1 .taken))
+
+digits-digits-requires :
+    (t : ℕ) →
+    digits-lts.Need-digits-requires (digits-below t, digits.Post) (digits-at t) digits.Post
+digits-digits-requires t c κs = (omega arith, tt)
+
+digits-add-result :
+    (t : ℕ) → digits-lts.Need-add-result (digits-below t, digits.Post) (digits-at t) digits.Post
+digits-add-result t c = omega arith
+
+digits-returns-2 :
+    (t : ℕ) → digits-lts.Need-returns-2 (digits-below t, digits.Post) (digits-at t) digits.Post
+digits-returns-2 t c = omega (arith, decimal-length _ (c .before .if1 .left), word-width _ (c .before .before .fits .n))
+
+pub +digits-spec : {M : Type 1} → statement M
++digits-spec =
+    close
+    μ-digits
+    λ t. digits-lts.spec
+    (digits-below t, digits.Post)
+    (digits-at t)
+    digits.Post
+    (digits-returns t)
+    (digits-digits-requires t)
+    (digits-add-result t)
+    (digits-returns-2 t)

@@ -1,0 +1,17 @@
+use native.Mathlib.Omega.{arith}
+use Rattle.measure.proofs.Laws.{malformed-length}
+use borrow.Author.Needs.{needs}
+use Rattle.measure.proofs.malformed_len.Statement.{statement}
+use Rattle.measure.proofs.malformed_len.Tie as tie
+
+digits-requires : tie.Need-digits-requires
+digits-requires c κs = search needs
+
+add-result : tie.Need-add-result
+add-result c = search needs
+
+returns : tie.Need-returns
+returns c = omega (arith, malformed-length (c .before .args .line))
+
+pub malformed-len-spec : {M : Type 1} → statement M
+malformed-len-spec = tie.close (tie.spec digits-requires add-result returns)

@@ -1,0 +1,38 @@
+use native.Mathlib.Omega.{arith}
+use Rattle.measure.proofs.Laws.{pin-length}
+use borrow.Author.Needs.{needs}
+use Rattle.measure.proofs.pin_len.Statement.{statement}
+use Rattle.measure.proofs.pin_len.Tie as tie
+
+width-requires : tie.Need-width-requires
+width-requires c κs = search needs
+
+add-result : tie.Need-add-result
+add-result c = search needs
+
+width-requires-2 : tie.Need-width-requires-2
+width-requires-2 c κs = search needs
+
+add-result-2 : tie.Need-add-result-2
+add-result-2 c = search needs
+
+width-requires-3 : tie.Need-width-requires-3
+width-requires-3 c κs = search needs
+
+add-result-3 : tie.Need-add-result-3
+add-result-3 c = search needs
+
+returns : tie.Need-returns
+returns c = omega (arith, pin-length (c .before .before .before .args .s))
+
+pub pin-len-spec : {M : Type 1} → statement M
+pin-len-spec =
+    tie.close
+    (tie.spec
+    width-requires
+    add-result
+    width-requires-2
+    add-result-2
+    width-requires-3
+    add-result-3
+    returns)

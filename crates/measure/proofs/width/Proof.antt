@@ -1,0 +1,17 @@
+use Rattle.decimal.proofs.Laws.{small-length}
+use native.Mathlib.Omega.{arith}
+use Rattle.measure.proofs.Laws.{width-two, width-three}
+use Rattle.measure.proofs.width.Statement.{statement}
+use Rattle.measure.proofs.width.Tie as tie
+
+returns : tie.Need-returns
+returns c = omega (arith, small-length _ (c .if1 .taken))
+
+returns-2 : tie.Need-returns-2
+returns-2 c = (search width-two, omega arith)
+
+returns-3 : tie.Need-returns-3
+returns-3 c = (search width-three, omega arith)
+
+pub width-spec : {M : Type 1} → statement M
+width-spec = tie.close (tie.spec returns returns-2 returns-3)

@@ -1,0 +1,3 @@
+pub mod PlayedLaws
+pub mod GrowLaws
+pub mod AnswerLaws

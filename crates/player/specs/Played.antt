@@ -1,0 +1,37 @@
+-- The same report by stepping a keeper, as the program works it out.
+use Prim.Native.Nat.{ℕ, zero, suc, _+_}
+use mathlib.Core.List.{List, [], _∷_, _++_}
+use mathlib.Core.Bool.{Bool, cond}
+use lib.Dec.{leb}
+use lib.ListN.{length}
+use Rattle.event.specs.declared.Event.{Event}
+use Rattle.event.specs.declared.Outcome.{Outcome}
+use Rattle.trace.specs.Trace.{eventAt}
+use Rattle.trace.specs.declared.Reading.{Reading}
+use Rattle.trace.specs.declared.Reading.the-variants as reading
+use Rattle.report.specs.Report.{entryText, malformedText}
+use Rattle.keeper.specs.Keeping.{answerOf, shownBy}
+use Rattle.keeper.specs.declared.Keeper.{Keeper}
+use Rattle.keeper.specs.declared.Keeper.the-variants.{Off}
+use Rattle.keeper.specs.declared.Answered.{Answered}
+use Rattle.player.specs.declared.Stepped.{Stepped}
+
+-- one event: the next keeper, the answer, and the outputs after it
+abbrev pub steppedOf : Keeper → Event → Stepped
+steppedOf k e =
+    record {
+      keeper = (answerOf k e) .keeper;
+      outcome = record { answer = (answerOf k e) .answer; shown = shownBy ((answerOf k e) .keeper) };
+    }
+
+abbrev pub linesBy : Reading → (line : ℕ) → Keeper → (rest : ℕ → Keeper → List ℕ) → List ℕ
+linesBy (reading.Event e next) line k rest = entryText ((steppedOf k e) .outcome) ++ rest next ((steppedOf k e) .keeper)
+linesBy (reading.Wrong i start) line k rest = malformedText (line + i)
+
+unfoldable pub playedFrom : (fuel : ℕ) → List ℕ → (at line : ℕ) → Keeper → List ℕ
+playedFrom zero text at line k = []
+playedFrom (suc fuel) text at line k =
+    cond (leb (length text) at) [] (linesBy (eventAt text at) line k (λ next k′. playedFrom fuel text next (line + 4) k′))
+
+unfoldable pub playedOf : List ℕ → List ℕ
+playedOf text = playedFrom (length text) text 0 1 Off

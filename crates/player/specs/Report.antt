@@ -1,0 +1,44 @@
+-- Document 01, "Trace text and report": the report of a text, by the rules over the history.
+use Prim.Native.Nat.{ℕ, zero, suc, _+_}
+use mathlib.Core.List.{List, [], _∷_, _++_}
+use mathlib.Core.Bool.{Bool, cond}
+use lib.Dec.{ltb, leb}
+use lib.ListN.{length}
+use Rattle.event.specs.declared.Event.{Event}
+use Rattle.event.specs.declared.Outcome.{Outcome}
+use Rattle.event.specs.declared.Answer.the-variants.{WrongSize}
+use Rattle.trace.specs.Trace.{eventAt}
+use Rattle.trace.specs.declared.Reading.{Reading}
+use Rattle.trace.specs.declared.Reading.the-variants as reading
+use Rattle.report.specs.Report.{entryText, malformedText}
+use Rattle.buffer.specs.Put.{putOf, heldOf}
+use Rattle.buffer.specs.declared.Put.{Put}
+use Rattle.buffer.specs.declared.Put.the-variants.{Refused}
+use Rattle.history.specs.Events.{History}
+use Rattle.history.specs.Shows.{answer, shown}
+
+-- what the rules say of the next event: its answer, and the outputs after it
+abbrev pub outcome : Event → History → Outcome
+outcome e h = record { answer = answer e h; shown = shown (e ∷ h) }
+
+-- what stands in the report for what was read: the event's lines and the rest, or the ending
+abbrev pub lines : Reading → (line : ℕ) → History → (rest : ℕ → History → List ℕ) → List ℕ
+lines (reading.Event e next) line h rest = entryText (outcome e h) ++ rest next (e ∷ h)
+lines (reading.Wrong i start) line h rest = malformedText (line + i)
+
+-- the report of the text from an index on, where line `line` starts, after the events h; k is at least the bytes left
+unfoldable pub reportFrom : (k : ℕ) → List ℕ → (at line : ℕ) → History → List ℕ
+reportFrom zero text at line h = []
+reportFrom (suc k) text at line h =
+    cond (leb (length text) at) [] (lines (eventAt text at) line h (λ next h′. reportFrom k text next (line + 4) h′))
+
+-- the whole report; empty text gives an empty report
+unfoldable pub reportOf : List ℕ → List ℕ
+reportOf text = reportFrom (length text) text 0 1 []
+
+-- a text of more than 65,536 bytes is refused with 11 before any line is judged; then a buffer too short for the report
+unfoldable pub replayAnswer : (text buffer : List ℕ) → Put
+replayAnswer text buffer = cond (ltb 65536 (length text)) (Refused WrongSize) (putOf buffer 0 (reportOf text))
+
+unfoldable pub replayBuffer : (text buffer : List ℕ) → List ℕ
+replayBuffer text buffer = cond (ltb 65536 (length text)) buffer (heldOf buffer 0 (reportOf text))

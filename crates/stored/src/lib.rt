@@ -1,0 +1,246 @@
+// The bytes that the chip stores, and what an accepted event makes of them.
+// A byte is known by its address in the register table.
+use act::Act;
+use event::Kind;
+use part::ChannelId;
+use part::FanId;
+ghost use mathlib.Core.Path.{_≡_};
+ghost use Rattle.stored.specs.Stored.{offsetAt, highAt, lowAt, thermAt, controlAt, speedAt, tachLimitAt, characteristicsAt, statusAt, counts, storedAfter, idle, limitsAfter, fanBytesAfter, settingsAfter, outputEnabled, tachEnabled, channelEnabled, filterEnabled};
+
+// The bytes of a channel's registers.
+pub struct Limits {
+    pub offset: u8,
+    pub high: u8,
+    pub low: u8,
+    pub therm: u8,
+    pub control: u8,
+}
+
+// The bytes of a fan's registers.
+pub struct FanBytes {
+    pub speed: u8,
+    pub limit: u8,
+    pub characteristics: u8,
+}
+
+pub struct Settings {
+    pub config1: u8,
+    pub config2: u8,
+    pub test: u8,
+    pub speeds: u8,
+    pub filter: u8,
+    pub behaviour: u8,
+    pub local: Limits,
+    pub remote1: Limits,
+    pub remote2: Limits,
+    pub fan1: FanBytes,
+    pub fan2: FanBytes,
+}
+
+// ---- addresses
+
+pub fn speed_at(f: FanId) -> u8
+    ensures { λ r. ⌜ r ≡ speedAt f ⌝ }
+{
+    match f {
+        FanId::One => 0x08,
+        FanId::Two => 0x09,
+    }
+}
+
+pub fn status_at(f: FanId) -> u8
+    ensures { λ r. ⌜ r ≡ statusAt f ⌝ }
+{
+    match f {
+        FanId::One => 0x02,
+        FanId::Two => 0x03,
+    }
+}
+
+// A channel's registers stand four apart among the limits, and side by side elsewhere.
+fn offset_at(c: ChannelId) -> u8
+    ensures { λ r. ⌜ r ≡ offsetAt c ⌝ }
+{
+    match c {
+        ChannelId::Local => 0x0D,
+        ChannelId::Remote1 => 0x0E,
+        ChannelId::Remote2 => 0x0F,
+    }
+}
+
+fn high_at(c: ChannelId) -> u8
+    ensures { λ r. ⌜ r ≡ highAt c ⌝ }
+{
+    match c {
+        ChannelId::Local => 0x14,
+        ChannelId::Remote1 => 0x18,
+        ChannelId::Remote2 => 0x1C,
+    }
+}
+
+fn low_at(c: ChannelId) -> u8
+    ensures { λ r. ⌜ r ≡ lowAt c ⌝ }
+{
+    match c {
+        ChannelId::Local => 0x15,
+        ChannelId::Remote1 => 0x19,
+        ChannelId::Remote2 => 0x1D,
+    }
+}
+
+fn therm_at(c: ChannelId) -> u8
+    ensures { λ r. ⌜ r ≡ thermAt c ⌝ }
+{
+    match c {
+        ChannelId::Local => 0x16,
+        ChannelId::Remote1 => 0x1A,
+        ChannelId::Remote2 => 0x1E,
+    }
+}
+
+fn control_at(c: ChannelId) -> u8
+    ensures { λ r. ⌜ r ≡ controlAt c ⌝ }
+{
+    match c {
+        ChannelId::Local => 0x24,
+        ChannelId::Remote1 => 0x25,
+        ChannelId::Remote2 => 0x26,
+    }
+}
+
+fn tach_limit_at(f: FanId) -> u8
+    ensures { λ r. ⌜ r ≡ tachLimitAt f ⌝ }
+{
+    match f {
+        FanId::One => 0x10,
+        FanId::Two => 0x11,
+    }
+}
+
+fn characteristics_at(f: FanId) -> u8
+    ensures { λ r. ⌜ r ≡ characteristicsAt f ⌝ }
+{
+    match f {
+        FanId::One => 0x20,
+        FanId::Two => 0x21,
+    }
+}
+
+// ---- bytes after an event
+
+fn is_count_at(address: u8, r: Act) -> bool
+    ensures { λ b. ⌜ b ≡ counts address r ⌝ }
+{
+    ((address == speed_at(FanId::One)) & act::is_count(FanId::One, r))
+        | ((address == speed_at(FanId::Two)) & act::is_count(FanId::Two, r))
+}
+
+// The byte at an address.
+pub fn stored_after(address: u8, r: Act, was: u8) -> u8
+    ensures { λ b. ⌜ b ≡ storedAfter address r was ⌝ }
+{
+    if act::is_fresh(r) {
+        return register::reset_at(address);
+    }
+    if act::is_write(address, r) {
+        return num::merged(register::mask_at(address), was, r.val);
+    }
+    if is_count_at(address, r) { r.val } else { was }
+}
+
+fn limits_after(c: ChannelId, r: Act, l: Limits) -> Limits
+    ensures { λ b. ⌜ b ≡ limitsAfter c r l ⌝ }
+{
+    Limits {
+        offset: stored_after(offset_at(c), r, l.offset),
+        high: stored_after(high_at(c), r, l.high),
+        low: stored_after(low_at(c), r, l.low),
+        therm: stored_after(therm_at(c), r, l.therm),
+        control: stored_after(control_at(c), r, l.control),
+    }
+}
+
+fn fan_bytes_after(f: FanId, r: Act, b: FanBytes) -> FanBytes
+    ensures { λ d. ⌜ d ≡ fanBytesAfter f r b ⌝ }
+{
+    FanBytes {
+        speed: stored_after(speed_at(f), r, b.speed),
+        limit: stored_after(tach_limit_at(f), r, b.limit),
+        characteristics: stored_after(characteristics_at(f), r, b.characteristics),
+    }
+}
+
+// An event that stores nothing: no start afresh, no write, no count.
+fn stores_nothing(r: Act) -> bool
+    ensures { λ b. ⌜ b ≡ idle r ⌝ }
+{
+    !(act::is_fresh(r) | (act::is_a(Kind::Write, r) | act::is_a(Kind::Tach, r)))
+}
+
+fn all_after(r: Act, s: Settings) -> Settings
+    ensures { λ b. ⌜ b ≡ settingsAfter r s ⌝ }
+{
+    Settings {
+        config1: stored_after(0x00, r, s.config1),
+        config2: stored_after(0x01, r, s.config2),
+        test: stored_after(0x07, r, s.test),
+        speeds: stored_after(0x22, r, s.speeds),
+        filter: stored_after(0x23, r, s.filter),
+        behaviour: stored_after(0x3F, r, s.behaviour),
+        local: limits_after(ChannelId::Local, r, s.local),
+        remote1: limits_after(ChannelId::Remote1, r, s.remote1),
+        remote2: limits_after(ChannelId::Remote2, r, s.remote2),
+        fan1: fan_bytes_after(FanId::One, r, s.fan1),
+        fan2: fan_bytes_after(FanId::Two, r, s.fan2),
+    }
+}
+
+// Every byte.
+pub fn settings_after(r: Act, s: Settings) -> Settings
+    ensures { λ b. ⌜ b ≡ settingsAfter r s ⌝ }
+{
+    if stores_nothing(r) {
+        s
+    } else {
+        all_after(r, s)
+    }
+}
+
+// ---- enable bits
+
+pub fn output_enabled(f: FanId, config2: u8) -> bool
+    ensures { λ b. ⌜ b ≡ outputEnabled f config2 ⌝ }
+{
+    match f {
+        FanId::One => num::bit(config2, 0),
+        FanId::Two => num::bit(config2, 1),
+    }
+}
+
+pub fn tach_enabled(f: FanId, config2: u8) -> bool
+    ensures { λ b. ⌜ b ≡ tachEnabled f config2 ⌝ }
+{
+    match f {
+        FanId::One => num::bit(config2, 2),
+        FanId::Two => num::bit(config2, 3),
+    }
+}
+
+pub fn channel_enabled(c: ChannelId, config2: u8) -> bool
+    ensures { λ b. ⌜ b ≡ channelEnabled c config2 ⌝ }
+{
+    match c {
+        ChannelId::Local => num::bit(config2, 4),
+        ChannelId::Remote1 => num::bit(config2, 5),
+        ChannelId::Remote2 => num::bit(config2, 6),
+    }
+}
+
+pub fn filter_enabled(f: FanId, filter: u8) -> bool
+    ensures { λ b. ⌜ b ≡ filterEnabled f filter ⌝ }
+{
+    match f {
+        FanId::One => num::bit(filter, 0),
+        FanId::Two => num::bit(filter, 1),
+    }
+}
