@@ -1,0 +1,137 @@
+//! What the compared reports have reached.
+
+const ANSWERS: usize = 12;
+const FULL_DUTY: usize = 240;
+const LEAST_DUTIES: usize = 150;
+
+pub struct Coverage {
+    pub traces: u64,
+    pub events: u64,
+    answers: [u64; ANSWERS],
+    int: u64,
+    therm: u64,
+    fault: u64,
+    duties: [bool; FULL_DUTY + 1],
+}
+
+impl Coverage {
+    pub fn new() -> Coverage {
+        Coverage {
+            traces: 0,
+            events: 0,
+            answers: [0; ANSWERS],
+            int: 0,
+            therm: 0,
+            fault: 0,
+            duties: [false; FULL_DUTY + 1],
+        }
+    }
+
+    /// Counts the lines of one report.
+    pub fn count(&mut self, report: &[u8]) {
+        self.traces += 1;
+        for line in report.split(|&byte| byte == b'\n') {
+            if let Some(number) = number_after(line, b"answer=") {
+                self.count_answer(number);
+            } else if let Some(duty) =
+                number_after(line, b"duty1=").or(number_after(line, b"duty2="))
+            {
+                if duty <= FULL_DUTY {
+                    self.duties[duty] = true;
+                }
+            } else {
+                self.int += u64::from(line == b"int=1");
+                self.therm += u64::from(line == b"therm=1");
+                self.fault += u64::from(line == b"fault=1");
+            }
+        }
+    }
+
+    /// Answers 10 and 11 end a report and belong to no event.
+    fn count_answer(&mut self, number: usize) {
+        if number < ANSWERS {
+            self.answers[number] += 1;
+        }
+        if number < 10 {
+            self.events += 1;
+        }
+    }
+
+    pub fn add(&mut self, other: &Coverage) {
+        self.traces += other.traces;
+        self.events += other.events;
+        for (sum, more) in self.answers.iter_mut().zip(other.answers) {
+            *sum += more;
+        }
+        self.int += other.int;
+        self.therm += other.therm;
+        self.fault += other.fault;
+        for (seen, more) in self.duties.iter_mut().zip(other.duties) {
+            *seen |= more;
+        }
+    }
+
+    fn distinct_duties(&self) -> usize {
+        self.duties.iter().filter(|&&seen| seen).count()
+    }
+
+    pub fn print(&self) {
+        for (number, count) in self.answers.iter().enumerate() {
+            println!("answer={number:<4} {count:>10}");
+        }
+        println!("int=1       {:>10}", self.int);
+        println!("therm=1     {:>10}", self.therm);
+        println!("fault=1     {:>10}", self.fault);
+        println!("duties      {:>10}", self.distinct_duties());
+    }
+
+    /// What was never reached; nothing if all was.
+    pub fn missing(&self) -> Vec<String> {
+        let mut missing = Vec::new();
+        for (number, &count) in self.answers.iter().enumerate() {
+            if count == 0 {
+                missing.push(format!("answer={number}"));
+            }
+        }
+        for (name, count) in [
+            ("int=1", self.int),
+            ("therm=1", self.therm),
+            ("fault=1", self.fault),
+        ] {
+            if count == 0 {
+                missing.push(name.to_string());
+            }
+        }
+        if self.distinct_duties() < LEAST_DUTIES {
+            missing.push(format!("{LEAST_DUTIES} distinct duties"));
+        }
+        missing
+    }
+}
+
+fn number_after(line: &[u8], name: &[u8]) -> Option<usize> {
+    let digits = line.strip_prefix(name)?;
+    std::str::from_utf8(digits).ok()?.parse().ok()
+}
+
+#[cfg(test)]
+mod tests {
+    use super::Coverage;
+
+    #[test]
+    fn counts_what_a_report_holds() {
+        let mut coverage = Coverage::new();
+        coverage.count(
+            b"answer=0\ndata=0\nint=1\ntherm=0\nfault=0\nduty1=240\nduty2=17\nanswer=10\nline=5\n",
+        );
+        assert_eq!((coverage.traces, coverage.events), (1, 1));
+        assert_eq!((coverage.int, coverage.therm, coverage.fault), (1, 0, 0));
+        assert_eq!((coverage.answers[0], coverage.answers[10]), (1, 1));
+        assert_eq!(coverage.distinct_duties(), 2);
+    }
+
+    #[test]
+    fn nothing_reached_is_missing() {
+        assert_eq!(Coverage::new().missing().len(), 16);
+    }
+}

@@ -1,0 +1,7 @@
+//! Random traces, and what the comparison and the benchmark need beside them.
+
+pub mod coverage;
+pub mod program;
+pub mod random;
+pub mod shrink;
+pub mod traces;

@@ -1,0 +1,276 @@
+//! The worked example and the bench cards of 01, and cards for its other rules.
+
+use crate::keeper::{Event, Keeper, Kind, Reply};
+use crate::replay;
+
+struct Bench(Keeper);
+
+impl Bench {
+    // powered at 44, with monitoring on
+    fn new() -> Self {
+        let mut bench = Bench(Keeper::new());
+        bench.ev(Kind::Power, 44, 0, 0);
+        bench.write(0x00, 0x91);
+        bench
+    }
+
+    // automatic, remote 1 on fan 1 with m, Tmin and the range code
+    fn slope(m: i32, t_min: i32, code: i32) -> Self {
+        let mut bench = Bench::new();
+        bench.write(0x22, m);
+        bench.write(0x25, t_min / 4 * 8 + code);
+        bench
+    }
+
+    fn ev(&mut self, kind: Kind, who: i32, arg: i32, val: i32) -> Reply {
+        self.0.take(Event {
+            kind,
+            who,
+            arg,
+            val,
+        })
+    }
+
+    fn write(&mut self, register: i32, byte: i32) -> Reply {
+        let reply = self.ev(Kind::Write, 44, register, byte);
+        assert_eq!(reply.answer, 0);
+        reply
+    }
+
+    fn read(&mut self, register: i32) -> u8 {
+        self.ev(Kind::Point, 44, register, 0);
+        self.ev(Kind::Read, 44, 0, 0).data
+    }
+
+    fn sample(&mut self, channel: i32, t: i32) -> Reply {
+        let reply = self.ev(Kind::Sample, channel, 0, t);
+        assert_eq!(reply.answer, 0);
+        reply
+    }
+
+    fn tach(&mut self, count: i32) -> Reply {
+        self.ev(Kind::Tach, 1, 0, count)
+    }
+
+    fn clocks(&mut self, n: usize) -> Reply {
+        (0..n)
+            .map(|_| self.ev(Kind::Clock, 0, 0, 0))
+            .last()
+            .unwrap()
+    }
+}
+
+fn duty_at(m: i32, t_min: i32, code: i32, t: i32) -> i32 {
+    let mut bench = Bench::slope(m, t_min, code);
+    assert_eq!(bench.sample(1, t).duty[0], 240);
+    bench.clocks(20).duty[0]
+}
+
+fn lines(events: &[&str]) -> String {
+    let names = ["kind", "who", "arg", "val"];
+    let one = |e: &&str| -> String {
+        e.split(' ')
+            .zip(names)
+            .map(|(v, n)| format!("{n}={v}\n"))
+            .collect()
+    };
+    events.iter().map(one).collect()
+}
+
+fn report(text: &str) -> String {
+    String::from_utf8(replay(text.as_bytes())).unwrap()
+}
+
+fn block(answer: i32) -> String {
+    format!("answer={answer}\ndata=0\nint=0\ntherm=0\nfault=0\nduty1=0\nduty2=0\n")
+}
+
+#[test]
+fn worked_example() {
+    let text = lines(&["power 44 0 0", "clock 0 0 0", "write 45 0 0"]);
+    assert_eq!(report(&text), block(0) + &block(0) + &block(2));
+}
+
+#[test]
+fn slope_cards() {
+    assert_eq!((duty_at(8, 0, 3, 223), duty_at(8, 0, 3, 224)), (239, 240));
+    assert_eq!((duty_at(11, 0, 3, 127), duty_at(11, 0, 3, 128)), (239, 240));
+    assert_eq!((duty_at(5, 20, 3, 320), duty_at(5, 0, 4, 320)), (160, 160));
+    assert_eq!((duty_at(5, 0, 4, 160), duty_at(5, 0, 4, 560)), (120, 220));
+}
+
+#[test]
+fn run_flag_card() {
+    let mut bench = Bench::slope(5, 20, 3);
+    assert_eq!(bench.sample(1, 160).duty[0], 0);
+    assert_eq!(bench.sample(1, 161).duty[0], 240);
+    assert_eq!(bench.clocks(20).duty[0], 80);
+    assert_eq!(bench.sample(1, 120).duty[0], 80);
+    assert_eq!(bench.sample(1, 119).duty[0], 0);
+}
+
+#[test]
+fn latch_cards() {
+    let mut bench = Bench::new();
+    assert!(!bench.sample(1, 800).therm);
+    assert!(bench.sample(1, 801).therm);
+    assert!(bench.sample(1, 760).therm);
+    assert!(!bench.sample(1, 759).therm);
+    bench.write(0x1A, -123 & 0xFF);
+    assert!(bench.sample(1, 0).therm);
+    assert!((-1024..=1023).all(|t| bench.sample(1, t).therm));
+}
+
+#[test]
+fn rounding_card() {
+    let mut bench = Bench::new();
+    bench.sample(1, -1);
+    assert_eq!((bench.read(0x0B), bench.read(0x06)), (255, 7));
+    bench.sample(1, -8);
+    assert_eq!((bench.read(0x0B), bench.read(0x06)), (255, 0));
+    bench.sample(0, -2);
+    bench.sample(2, 13);
+    assert_eq!((bench.read(0x0A), bench.read(0x0C)), (255, 1));
+    assert_eq!(bench.read(0x06), 0b11_101_000);
+}
+
+#[test]
+fn ramp_card() {
+    let mut bench = Bench::new();
+    bench.write(0x23, 0x61);
+    bench.write(0x00, 0x11);
+    assert_eq!(bench.clocks(20).duty, [240, 80]);
+    let duty: Vec<i32> = (0..21)
+        .map(|_| bench.ev(Kind::Period, 1, 0, 0).duty[0])
+        .collect();
+    assert_eq!(duty[18..], [88, 80, 80]);
+}
+
+#[test]
+fn tach_cards() {
+    let mut bench = Bench::new();
+    bench.write(0x00, 0x11);
+    assert_eq!(bench.clocks(20).duty[0], 80);
+    assert_eq!(bench.tach(255).duty[0], 80);
+    bench.write(0x10, 254);
+    assert_eq!(bench.tach(254).duty[0], 80);
+    assert_eq!(bench.tach(255).duty[0], 240);
+    assert_eq!((bench.read(0x02), bench.read(0x02)), (2, 0));
+}
+
+#[test]
+fn five_failures() {
+    let mut bench = Bench::new();
+    bench.write(0x10, 100);
+    bench.write(0x00, 0x11);
+    for failures in 1..=6 {
+        bench.clocks(20);
+        assert_eq!(bench.tach(101).fault, failures >= 5);
+        assert_eq!(bench.tach(101).fault, failures >= 5);
+    }
+    assert!(!bench.write(0x01, 0x7B).fault);
+}
+
+#[test]
+fn status_outlives_no_read_but_the_latch_does() {
+    let mut bench = Bench::new();
+    bench.write(0x00, 0x93);
+    let reply = bench.sample(0, 562);
+    assert!(reply.int && reply.therm);
+    assert_eq!((bench.read(0x02), bench.read(0x03)), (0x41, 0x41));
+    let reply = bench.sample(0, 562);
+    assert!(reply.int && reply.therm);
+    assert_eq!((bench.read(0x02), bench.read(0x03)), (0x40, 0));
+    bench.sample(0, 562);
+    assert!(!bench.write(0x01, 0x6F).int);
+    assert!(bench.sample(0, 562).therm);
+}
+
+#[test]
+fn reset_with_the_pin_low() {
+    let mut bench = Bench(Keeper::new());
+    bench.ev(Kind::Power, 45, 0, 1);
+    assert_eq!(bench.ev(Kind::Pin, 0, 0, 0).duty, [240, 240]);
+    assert_eq!(bench.ev(Kind::Write, 45, 0x01, 0xFF).duty, [240, 240]);
+    assert_eq!(bench.ev(Kind::Read, 45, 0, 0).data, 0x7F);
+    bench.ev(Kind::Point, 45, 3, 0);
+    assert_eq!(bench.ev(Kind::Read, 45, 0, 0).data, 0x21);
+    assert_eq!(bench.ev(Kind::Read, 45, 0, 0).data, 0x20);
+    assert_eq!(bench.ev(Kind::Pin, 0, 0, 1).duty, [0, 0]);
+}
+
+#[test]
+fn refusals() {
+    let cards = [
+        (Kind::Power, 43, 0, 0, 6),
+        (Kind::Write, 45, 99, 0, 2),
+        (Kind::Write, 44, 0x12, 256, 4),
+        (Kind::Write, 44, 0x02, 256, 5),
+        (Kind::Write, 44, 0x24, 0x107, 6),
+        (Kind::Write, 44, 0x24, 5, 7),
+        (Kind::Point, 44, 256, 1, 4),
+        (Kind::Point, 44, 0, 1, 6),
+        (Kind::Read, 44, 1, 0, 6),
+        (Kind::Sample, 3, 1, 0, 3),
+        (Kind::Sample, 0, 0, 1025, 6),
+        (Kind::Sample, 0, 0, 1, 8),
+        (Kind::Sample, 1, 0, 1, 9),
+        (Kind::Tach, 0, 0, 256, 3),
+        (Kind::Tach, 1, 0, -1, 6),
+        (Kind::Tach, 1, 0, 0, 9),
+        (Kind::Pin, 1, 0, 0, 6),
+        (Kind::Clock, 0, 0, 1, 6),
+        (Kind::Period, i32::MIN, 1, 0, 3),
+    ];
+    let mut bench = Bench(Keeper::new());
+    assert_eq!(bench.ev(Kind::Clock, 1, 0, 0).answer, 1);
+    bench.ev(Kind::Power, 44, 0, 0);
+    let before = bench.0.clone();
+    for (kind, who, arg, val, answer) in cards {
+        assert_eq!(
+            bench.ev(kind, who, arg, val).answer,
+            answer,
+            "{kind:?} {who} {arg} {val}"
+        );
+        assert!(bench.0 == before);
+    }
+}
+
+#[test]
+fn malformed_text() {
+    let wrong = |text: &str, line: i32| {
+        let report = report(text);
+        let end = format!("answer=10\nline={line}\n");
+        assert!(report.ends_with(&end), "{text:?}: {report:?}");
+    };
+    assert_eq!(report(""), "");
+    wrong("\n", 1);
+    wrong("kind=clock", 1);
+    wrong("kind=clocks\n", 1);
+    wrong("kind=clock\n", 2);
+    wrong("kind=clock\nwho=0\narg=0\nval=0", 4);
+    wrong("kind=clock\nwho=0\narg=0\nval=0\n\n", 5);
+    for bad in [
+        "",
+        "+1",
+        "-",
+        "-0",
+        "01",
+        "1 ",
+        "2147483648",
+        "-2147483649",
+        "0\r",
+    ] {
+        wrong(&format!("kind=clock\nwho={bad}\narg=0\nval=0\n"), 2);
+    }
+    let widest = lines(&["clock -2147483648 2147483647 0"]);
+    assert_eq!(report(&widest), block(1));
+}
+
+#[test]
+fn longest_text() {
+    let mut text = vec![b'x'; 65_536];
+    assert_eq!(replay(&text), b"answer=10\nline=1\n");
+    text.push(b'x');
+    assert_eq!(replay(&text), b"answer=11\n");
+}

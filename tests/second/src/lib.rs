@@ -1,0 +1,11 @@
+//! A replay of fan controller traces: the chip is in `keeper`, its register
+//! table in `table`, the trace reader and the report in `text`.
+
+pub mod keeper;
+pub mod table;
+pub mod text;
+
+#[cfg(test)]
+mod cards;
+
+pub use text::replay;
