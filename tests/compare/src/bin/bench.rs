@@ -19,7 +19,7 @@ const SIZES: [usize; 7] = [
 /// Guided traces one after the other, whole events, at most `size` bytes.
 fn text_of(size: usize) -> Vec<u8> {
     let mut text: Vec<u8> = Vec::new();
-    // Every twentieth trace is a guided one.
+    // Traces whose number is a multiple of 20 are guided ones.
     for index in (0..).step_by(20) {
         if text.len() >= size {
             break;
