@@ -72,3 +72,12 @@ pub fn reset_bytes() -> [u8; 64] {
     }
     regs
 }
+
+// temperatures 4: high, low and THERM places of a channel
+pub fn status_places(channel: usize) -> [(usize, usize); 3] {
+    match channel {
+        0 => [(STATUS_1, 6), (STATUS_1, 7), (STATUS_2, 6)],
+        1 => [(STATUS_1, 2), (STATUS_1, 3), (STATUS_1, 4)],
+        _ => [(STATUS_2, 2), (STATUS_2, 3), (STATUS_2, 4)],
+    }
+}
