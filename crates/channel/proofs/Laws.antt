@@ -1,11 +1,15 @@
 -- A channel's reading by the kind of the event. Assumes nothing.
 use Prim.Native.Nat.{ℕ}
-use mathlib.Core.Bool.{Bool, true, false}
-use mathlib.Core.Path.{_≡_, sym, _∙_}
+use mathlib.Core.Bool.{Bool, true, false, cond, not, _&&_, _||_}
+use mathlib.Core.Path.{_≡_, refl, sym, ap, _∙_}
 use Rattle.part.specs.declared.ChannelId.{ChannelId}
-use Rattle.act.specs.Acts.{fresh, samples}
+use Rattle.act.proofs.Laws.{neither}
+use Rattle.act.specs.Acts.{isA, fresh, samples}
 use Rattle.act.specs.declared.Act.{Act}
-use Rattle.channel.specs.Channels.{measuredOf, readingAfter}
+use Rattle.channel.specs.Channels.{measuredOf, readingAfter, latchAfter, flagAfter, overAfter, underAfter, hotAfter, passesBy, channelKept, channelAfter}
+use Rattle.channel.specs.declared.Channel.{Channel}
+use Rattle.stored.specs.declared.Limits.{Limits}
+use Rattle.event.specs.declared.Kind.the-variants as kind
 
 module _ (c : ChannelId) (r : Act) (was : ℕ) {f : Bool} (ef : f ≡ fresh r) where
   pub reading-fresh : f ≡ true → 1024 ≡ readingAfter c r was
@@ -20,3 +24,19 @@ module _ (c : ChannelId) (r : Act) (was : ℕ) {f : Bool} (ef : f ≡ fresh r) w
     pub reading-kept : s ≡ false → was ≡ readingAfter c r was
     unfolding readingAfter
     reading-kept t = rw (sym ef ∙ nf, sym es ∙ t)
+
+-- ---- an event that is none of the channel's
+
+unmarked : (enabled was : Bool) → was && enabled ≡ cond (not enabled) false was
+unmarked true true = refl
+unmarked true false = refl
+unmarked false true = refl
+unmarked false false = refl
+
+pub kept-is : (c : ChannelId) (l : Limits) (enabled : Bool) (pointer : ℕ) (r : Act) (was : Channel) {b : Bool} → b ≡ passesBy c r → b ≡ true → {k : Channel} → k ≡ channelKept enabled was
+    → k ≡ channelAfter c l enabled pointer r was
+unfolding channelAfter readingAfter latchAfter flagAfter overAfter underAfter hotAfter
+kept-is c l enabled pointer r was e t q =
+    let a = neither (fresh r) (samples c r || isA kind.Read r) (sym e ∙ t) in
+    let b = neither (samples c r) (isA kind.Read r) (ap not (a .1)) in
+    q ∙ rw (a .0, b .0, b .1, unmarked enabled (was .over), unmarked enabled (was .under), unmarked enabled (was .hot))

@@ -5,10 +5,11 @@ use Rattle.part.specs.declared.ChannelId.{ChannelId}
 use Rattle.part.specs.declared.ChannelId.the-variants.{Local, Remote1, Remote2}
 use Rattle.part.specs.declared.FanId.{FanId}
 use Rattle.part.specs.declared.FanId.the-variants.{One, Two}
+use Rattle.event.specs.declared.Kind.the-variants as kind
 use Rattle.reading.specs.Limits.{latchedOf, runningOf, overOf, underOf}
 use Rattle.demand.specs.Demand.{tminOf}
 use Rattle.act.specs.declared.Act.{Act}
-use Rattle.act.specs.Acts.{samples, fresh, reads, markAfter}
+use Rattle.act.specs.Acts.{isA, samples, fresh, reads, markAfter}
 use Rattle.stored.specs.Stored.{statusAt, channelEnabled}
 use Rattle.stored.specs.declared.Limits.{Limits}
 use Rattle.stored.specs.declared.Settings.{Settings}
@@ -70,6 +71,21 @@ channelAfter c l enabled pointer r was =
       over = overAfter c (l .high) enabled pointer r (was .over);
       under = underAfter c (l .low) enabled pointer r (was .under);
       hot = hotAfter c enabled (was .latch) (latchAfter c (l .therm) r (was .latch)) pointer r (was .hot);
+    }
+
+-- an event that is none of the channel's, and what it leaves: the same, which is proved
+abbrev pub passesBy : ChannelId → Act → Bool
+passesBy c r = not (fresh r || (samples c r || isA kind.Read r))
+
+abbrev pub channelKept : (enabled : Bool) → Channel → Channel
+channelKept enabled was =
+    record {
+      reading = was .reading;
+      latch = was .latch;
+      flag = was .flag;
+      over = was .over && enabled;
+      under = was .under && enabled;
+      hot = was .hot && enabled;
     }
 
 -- the three channels, under the registers as they stand after the event

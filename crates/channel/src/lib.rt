@@ -1,6 +1,7 @@
 // The temperature channels, and what an accepted event makes of them: reading, THERM latch, run flag, status bits.
 // One function serves all three.
 use act::Act;
+use event::Kind;
 use part::ChannelId;
 use part::FanId;
 use stored::Limits;
@@ -8,7 +9,7 @@ use stored::Settings;
 ghost use mathlib.Core.Path.{_≡_};
 ghost use mathlib.Core.Bool.{not, _&&_};
 ghost use Rattle.demand.specs.Demand.{tminOf};
-ghost use Rattle.channel.specs.Channels.{measuredOf, readingAfter, latchAfter, flagAfter, limitBitsIn, thermBitIn, clearsBit, overAfter, underAfter, hotAfter, channelAfter, channelsAfter, thermOf};
+ghost use Rattle.channel.specs.Channels.{measuredOf, readingAfter, latchAfter, flagAfter, limitBitsIn, thermBitIn, clearsBit, overAfter, underAfter, hotAfter, passesBy, channelKept, channelAfter, channelsAfter, thermOf};
 
 // The last reading, the THERM latch and the run flag; then the high, low and THERM status bits.
 pub struct Channel {
@@ -129,7 +130,28 @@ fn hot_after(
     act::mark_after(sets, clears_bit(therm_bit_in(c), enabled, pointer, r), was)
 }
 
-fn channel_after(
+// An event that is none of the channel's: no start afresh, no sample of it, no read.
+fn passes_by(c: ChannelId, r: Act) -> bool
+    ensures { λ b. ⌜ b ≡ passesBy c r ⌝ }
+{
+    !(act::is_fresh(r) | (act::is_sample(c, r) | act::is_a(Kind::Read, r)))
+}
+
+// The channel after such an event: at most its enable bit has become 0.
+fn channel_kept(enabled: bool, was: Channel) -> Channel
+    ensures { λ b. ⌜ b ≡ channelKept enabled was ⌝ }
+{
+    Channel {
+        reading: was.reading,
+        latch: was.latch,
+        flag: was.flag,
+        over: was.over & enabled,
+        under: was.under & enabled,
+        hot: was.hot & enabled,
+    }
+}
+
+fn channel_moved(
     c: ChannelId,
     l: Limits,
     enabled: bool,
@@ -147,6 +169,23 @@ fn channel_after(
         over: over_after(c, l.high, enabled, pointer, r, was.over),
         under: under_after(c, l.low, enabled, pointer, r, was.under),
         hot: hot_after(c, enabled, was.latch, latch, pointer, r, was.hot),
+    }
+}
+
+fn channel_after(
+    c: ChannelId,
+    l: Limits,
+    enabled: bool,
+    pointer: u8,
+    r: Act,
+    was: Channel,
+) -> Channel
+    ensures { λ b. ⌜ b ≡ channelAfter c l enabled pointer r was ⌝ }
+{
+    if passes_by(c, r) {
+        channel_kept(enabled, was)
+    } else {
+        channel_moved(c, l, enabled, pointer, r, was)
     }
 }
 

@@ -140,9 +140,13 @@ fn chip_under(s: Settings, r: Act, k: Chip) -> Chip
     )
 }
 
-// The chip after an accepted event.
+// The chip after an accepted event. Most events store nothing, and then no register is copied byte by byte.
 pub fn chip_after(r: Act, k: Chip) -> Chip
     ensures { λ x. ⌜ x ≡ chipAfter r k ⌝ }
 {
-    chip_under(stored::settings_after(r, k.settings), r, k)
+    if stored::stores_nothing(r) {
+        chip_under(k.settings, r, k)
+    } else {
+        chip_under(stored::settings_after(r, k.settings), r, k)
+    }
 }

@@ -1,10 +1,10 @@
 -- What the proofs of the functions cite: each case of a rule, over plain values. Assumes nothing.
 use Prim.Native.Nat.{ℕ, _+_, _-_, _*_, _/_, _%_, _<_, min, max}
 use mathlib.Core.Path.{_≡_, sym, _∙_}
-use mathlib.Core.Bool.{Bool, true, false, cond}
+use mathlib.Core.Bool.{Bool, true, false}
 use native.Mathlib.Nat.{div-le-self}
 use native.Mathlib.Omega.{arith}
-use borrow.Author.Needs.{needs}
+use borrow.Author.Tests.{ne-eqb}
 use mir.Syntax.{w8, w32}
 use mir.Val.{Fits}
 use Rattle.num.specs.Bits.{bitOf}
@@ -13,18 +13,27 @@ use Rattle.part.specs.declared.FanId.{FanId}
 use Rattle.part.specs.declared.FanId.the-variants.{One, Two}
 use Rattle.demand.specs.Demand.{tminOf, rangeOf, slopeOf, demandOf, codeOf, modeOf, assignedOf, asked, targetOf}
 
-either : (t : Bool) {x y : ℕ} → 0 < x → 0 < y → 0 < cond t x y
-either true h k = h
-either false h k = k
+-- the quotient 20 x / R, by the range code
+module _ (above control : ℕ) where
+  pub slope-0 : control % 8 ≡ 0 → 4 * above ≡ slopeOf above (rangeOf control)
+  unfolding slopeOf rangeOf
+  slope-0 e = rw e (omega arith)
 
--- R is never 0
-pub range-pos : {r : ℕ} (control : ℕ) → r ≡ rangeOf control → 0 < r
-unfolding rangeOf
-range-pos control e = rw e (search (either, needs))
+  pub slope-1 : control % 8 ≡ 1 → 2 * above ≡ slopeOf above (rangeOf control)
+  unfolding slopeOf rangeOf
+  slope-1 e = rw e (omega arith)
 
-pub slope-is : {r : ℕ} (above control : ℕ) → r ≡ rangeOf control → 20 * above / r ≡ slopeOf above (rangeOf control)
-unfolding slopeOf
-slope-is above control e = rw e
+  pub slope-2 : control % 8 ≡ 2 → above ≡ slopeOf above (rangeOf control)
+  unfolding slopeOf rangeOf
+  slope-2 e = rw e (omega arith)
+
+  pub slope-3 : control % 8 ≡ 3 → above / 2 ≡ slopeOf above (rangeOf control)
+  unfolding slopeOf rangeOf
+  slope-3 e = rw e (omega arith)
+
+  pub slope-rest : ((((Unit {0} × (control % 8 ≡ 0 → ⊥)) × (control % 8 ≡ 1 → ⊥)) × (control % 8 ≡ 2 → ⊥)) × (control % 8 ≡ 3 → ⊥)) → above / 4 ≡ slopeOf above (rangeOf control)
+  unfolding slopeOf rangeOf
+  slope-rest h = rw (ne-eqb _ _ (h .0 .0 .0 .1), ne-eqb _ _ (h .0 .0 .1), ne-eqb _ _ (h .0 .1), ne-eqb _ _ (h .1)) (omega arith)
 
 pub sum-fits : {n : ℕ} (above r m : ℕ) → m < 256 → above < 65536 → n ≡ slopeOf above r → Fits w32 (16 * m + n)
 unfolding slopeOf

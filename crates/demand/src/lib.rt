@@ -6,24 +6,18 @@ ghost use mathlib.Core.Path.{_≡_};
 ghost use Prim.Native.Nat.{_+_, _-_, _*_, min, max};
 ghost use Rattle.demand.specs.Demand.{tminOf, rangeOf, slopeOf, demandOf, codeOf, ownOf, isRemote1, isRemote2, assignedOf, asked, targetOf, overriddenOf};
 
-pub fn range(control: u8) -> u8
-    ensures { λ r. ⌜ r ≡ rangeOf control ⌝ }
-{
-    let code = control % 8;
-    match code {
-        0 => 5,
-        1 => 10,
-        2 => 20,
-        3 => 40,
-        _ => 80,
-    }
-}
-
-// The slots that a reading this far above Tmin adds.
+// The slots that a reading this far above Tmin adds: 20 / R is 4, 2, 1, 1/2, 1/4.
 pub fn slope(above: u16, control: u8) -> u32
     ensures { λ r. ⌜ r ≡ slopeOf above (rangeOf control) ⌝ }
 {
-    20 * above as u32 / range(control) as u32
+    let code = control % 8;
+    match code {
+        0 => 4 * above as u32,
+        1 => 2 * above as u32,
+        2 => above as u32,
+        3 => (above / 2) as u32,
+        _ => (above / 4) as u32,
+    }
 }
 
 // How far a reading is above Tmin, or 0.

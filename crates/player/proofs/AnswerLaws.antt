@@ -41,7 +41,7 @@ pub step-outcome : (k : Keeper) (e : Event) {a : Answered} {s : Shown} → a ≡
     → _≡_ {A = Outcome} (record { answer = a .answer; shown = s }) (steppedOf k e .outcome)
 step-outcome k e p q = same-outcome (ap (λ (x : Answered). x .answer) p) (q ∙ ap (λ (x : Answered). shownBy (x .keeper)) p)
 
-outcome-is : (e : Event) (h : History) → steppedOf (run h) e .outcome ≡ outcome e h
+pub outcome-is : (e : Event) (h : History) → steppedOf (run h) e .outcome ≡ outcome e h
 unfolding run
 outcome-is e h = same-outcome (agreement h .answers e) (agreement (e ∷ h) .shows)
 

@@ -20,7 +20,7 @@ pub struct Stepped {
     pub outcome: Outcome,
 }
 
-fn step(k: Keeper, e: Event) -> Stepped
+pub fn step(k: Keeper, e: Event) -> Stepped
     ensures { λ r. ⌜ (r .keeper ≡ (steppedOf k e) .keeper) × (r .outcome ≡ (steppedOf k e) .outcome) ⌝ }
 {
     let answered = keeper::step(k, e);

@@ -1,4 +1,4 @@
--- What C callers get of the replay's answer: where the report ends, or the largest number of 64 bits for 11.
+-- What C callers get of an answer: where what was put ends, or the largest number of 64 bits for 11.
 use Prim.Native.Nat.{ℕ}
 use Rattle.buffer.specs.declared.Put.{Put}
 use Rattle.buffer.specs.declared.Put.the-variants.{End, Refused}

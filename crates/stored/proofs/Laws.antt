@@ -1,10 +1,11 @@
 -- A stored byte by the kind of the event. Assumes nothing.
 use Prim.Native.Nat.{ℕ}
-use mathlib.Core.Bool.{Bool, true, false, not, _||_, true≢false, and-false}
+use mathlib.Core.Bool.{Bool, true, false, not, _||_, and-false}
 use Rattle.event.specs.declared.Kind.the-variants as kind
-use mathlib.Core.Path.{_≡_, refl, sym, ap, _∙_}
+use mathlib.Core.Path.{_≡_, sym, ap, _∙_}
 use Rattle.num.specs.Bits.{mergedOf}
 use Rattle.register.specs.Table.{maskAt, resetAt}
+use Rattle.act.proofs.Laws.{neither}
 use Rattle.act.specs.Acts.{isA, fresh, writes}
 use Rattle.act.specs.declared.Act.{Act}
 use Rattle.stored.specs.Stored.{counts, storedAfter, idle, limitsAfter, fanBytesAfter, settingsAfter}
@@ -34,16 +35,11 @@ module _ (a : ℕ) (r : Act) (was : ℕ) {f : Bool} (ef : f ≡ fresh r) where
       stored-kept t = rw (sym ef ∙ nf, sym ew ∙ nw, sym ek ∙ t)
 
 -- An event that stores nothing leaves every byte.
-either : (a b : Bool) → not (a || b) ≡ true → (a ≡ false) × (b ≡ false)
-either true b e = absurd (true≢false (sym e))
-either false true e = absurd (true≢false (sym e))
-either false false e = (refl, refl)
-
 module _ (r : Act) (nothing : idle r ≡ true) where
   quiet : (fresh r ≡ false) × (isA kind.Write r ≡ false) × (isA kind.Tach r ≡ false)
   quiet =
-      let a = either (fresh r) (isA kind.Write r || isA kind.Tach r) nothing in
-      let b = either (isA kind.Write r) (isA kind.Tach r) (ap not (a .1)) in
+      let a = neither (fresh r) (isA kind.Write r || isA kind.Tach r) nothing in
+      let b = neither (isA kind.Write r) (isA kind.Tach r) (ap not (a .1)) in
       (a .0, b .0, b .1)
 
   same-byte : (a was : ℕ) → storedAfter a r was ≡ was

@@ -171,13 +171,14 @@ fn fan_bytes_after(f: FanId, r: Act, b: FanBytes) -> FanBytes
 }
 
 // An event that stores nothing: no start afresh, no write, no count.
-fn stores_nothing(r: Act) -> bool
+pub fn stores_nothing(r: Act) -> bool
     ensures { λ b. ⌜ b ≡ idle r ⌝ }
 {
     !(act::is_fresh(r) | (act::is_a(Kind::Write, r) | act::is_a(Kind::Tach, r)))
 }
 
-fn all_after(r: Act, s: Settings) -> Settings
+// Every byte.
+pub fn settings_after(r: Act, s: Settings) -> Settings
     ensures { λ b. ⌜ b ≡ settingsAfter r s ⌝ }
 {
     Settings {
@@ -192,17 +193,6 @@ fn all_after(r: Act, s: Settings) -> Settings
         remote2: limits_after(ChannelId::Remote2, r, s.remote2),
         fan1: fan_bytes_after(FanId::One, r, s.fan1),
         fan2: fan_bytes_after(FanId::Two, r, s.fan2),
-    }
-}
-
-// Every byte.
-pub fn settings_after(r: Act, s: Settings) -> Settings
-    ensures { λ b. ⌜ b ≡ settingsAfter r s ⌝ }
-{
-    if stores_nothing(r) {
-        s
-    } else {
-        all_after(r, s)
     }
 }
 

@@ -1,4 +1,4 @@
-//! Safe calls of the proved fan keeper: a trace text in, a report out.
+//! Safe calls of the proved fan keeper: a trace text in and a report out, or events in and outcomes out.
 
 use std::fmt;
 
@@ -14,16 +14,25 @@ mod library {
             report: *mut u8,
             report_len: usize,
         ) -> usize;
+
+        // How many bytes of outcomes there are, or usize::MAX where numbers or buffer have the wrong size.
+        // The lengths count the numbers and the bytes.
+        pub fn snezhulka_steps(
+            numbers: *const i32,
+            count: usize,
+            outcomes: *mut u8,
+            outcomes_len: usize,
+        ) -> usize;
     }
 }
 
-/// The text is too long, or the buffer too short for its report.
+/// The text is too long, or the buffer too short for what is to be put.
 #[derive(Clone, Copy, Debug, PartialEq, Eq)]
 pub struct WrongSize;
 
 impl fmt::Display for WrongSize {
     fn fmt(&self, f: &mut fmt::Formatter<'_>) -> fmt::Result {
-        f.write_str("the text is too long, or the buffer too short for its report")
+        f.write_str("the text is too long, or the buffer too short")
     }
 }
 
@@ -53,6 +62,34 @@ pub fn report_of(text: &[u8]) -> Vec<u8> {
         Err(WrongSize) => report = b"answer=11\n".to_vec(),
     }
     report
+}
+
+/// An event: its kind, from 0 (power) to 8 (period) in the order of the trace format, who, arg and val.
+pub type Event = [i32; 4];
+
+/// What a report says of an event: answer, data, int, therm, fault, duty1, duty2.
+pub type Outcome = [u8; 7];
+
+/// Steps a keeper that never had power through `events` and puts their outcomes into `outcomes`.
+/// Gives how many events were taken: all, or those before the first that has another kind.
+/// With `WrongSize`, where there is less room than events, no outcome has changed.
+pub fn steps(events: &[Event], outcomes: &mut [Outcome]) -> Result<usize, WrongSize> {
+    let numbers = events.as_flattened();
+    let bytes = outcomes.as_flattened_mut();
+    // Safety: as in `replay`.
+    let end = unsafe {
+        library::snezhulka_steps(
+            numbers.as_ptr(),
+            numbers.len(),
+            bytes.as_mut_ptr(),
+            bytes.len(),
+        )
+    };
+    if end == usize::MAX {
+        Err(WrongSize)
+    } else {
+        Ok(end / 7)
+    }
 }
 
 #[cfg(test)]

@@ -1,4 +1,4 @@
-use super::{replay, report_of, WrongSize, LONGEST_TEXT};
+use super::{replay, report_of, steps, Event, WrongSize, LONGEST_TEXT};
 
 // Power, a clock event and a write to a foreign address.
 const EXAMPLE: &[u8] = b"kind=power\nwho=44\narg=0\nval=0\n\
@@ -73,4 +73,70 @@ fn one_byte_too_many() {
         Err(WrongSize)
     );
     assert_eq!(buffer, [0xaa; 100]);
+}
+
+// The same three events, as numbers.
+const EVENTS: [Event; 3] = [[0, 44, 0, 0], [7, 0, 0, 0], [1, 45, 0, 0]];
+
+#[test]
+fn worked_example_in_numbers() {
+    let mut outcomes = [[0xaa; 7]; 4];
+    assert_eq!(steps(&EVENTS, &mut outcomes), Ok(3));
+    assert_eq!(outcomes, [[0; 7], [0; 7], [2, 0, 0, 0, 0, 0, 0], [0xaa; 7]]);
+}
+
+#[test]
+fn outcomes_without_room_for_all_stay_as_they_were() {
+    for room in 0..3 {
+        let mut outcomes = vec![[0xaa; 7]; room];
+        assert_eq!(steps(&EVENTS, &mut outcomes), Err(WrongSize), "room {room}");
+        assert_eq!(outcomes, vec![[0xaa; 7]; room]);
+    }
+    assert_eq!(steps(&[], &mut []), Ok(0));
+}
+
+#[test]
+fn numbers_that_are_no_whole_event_are_refused() {
+    let numbers = EVENTS.as_flattened();
+    for cut in 1..4 {
+        let mut bytes = [0xaa; 21];
+        let count = numbers.len() - cut;
+        // Safety: the lengths are those of the slices, and shorter.
+        let end = unsafe {
+            super::library::snezhulka_steps(
+                numbers.as_ptr(),
+                count,
+                bytes.as_mut_ptr(),
+                bytes.len(),
+            )
+        };
+        assert_eq!((end, bytes), (usize::MAX, [0xaa; 21]), "{count} numbers");
+    }
+}
+
+#[test]
+fn steps_end_where_a_kind_is_none() {
+    for kind in [-1, 9, i32::MIN, i32::MAX] {
+        let mut events = EVENTS;
+        events[1][0] = kind;
+        let mut outcomes = [[0xaa; 7]; 3];
+        assert_eq!(steps(&events, &mut outcomes), Ok(1), "kind {kind}");
+        assert_eq!(outcomes, [[0; 7], [0xaa; 7], [0xaa; 7]], "kind {kind}");
+    }
+}
+
+#[test]
+fn every_number_is_passed_whole() {
+    let mut outcomes = [[0; 7]; 2];
+    for (val, answer) in [
+        (-1024, 9),
+        (-1025, 6),
+        (i32::MIN, 6),
+        (1023, 9),
+        (i32::MAX, 6),
+    ] {
+        let events = [EVENTS[0], [4, 1, 0, val]];
+        assert_eq!(steps(&events, &mut outcomes), Ok(2));
+        assert_eq!(outcomes[1][0], answer, "val {val}");
+    }
 }

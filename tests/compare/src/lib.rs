@@ -1,6 +1,7 @@
 //! Random traces, and what the comparison and the benchmark need beside them.
 
 pub mod coverage;
+pub mod events;
 pub mod program;
 pub mod random;
 pub mod shrink;

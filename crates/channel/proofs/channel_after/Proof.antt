@@ -1,38 +1,24 @@
-use Rattle.channel.specs.Channels.{channelAfter}
+use Rattle.channel.proofs.Laws.{kept-is}
 use borrow.Author.Needs.{needs}
 use Rattle.channel.proofs.channel_after.Statement.{statement}
 use Rattle.channel.proofs.channel_after.Tie as tie
 
-latch-after-requires : tie.Need-latch-after-requires
-latch-after-requires c κs = search needs
+passes-by-requires : tie.Need-passes-by-requires
+passes-by-requires c κs = search needs
 
-reading-after-requires : tie.Need-reading-after-requires
-reading-after-requires c κs = search needs
+channel-kept-requires : tie.Need-channel-kept-requires
+channel-kept-requires c κs = search needs
 
-flag-after-requires : tie.Need-flag-after-requires
-flag-after-requires c κs = search needs
-
-over-after-requires : tie.Need-over-after-requires
-over-after-requires c κs = search needs
-
-under-after-requires : tie.Need-under-after-requires
-under-after-requires c κs = search needs
-
-hot-after-requires : tie.Need-hot-after-requires
-hot-after-requires c κs = search needs
+channel-moved-requires : tie.Need-channel-moved-requires
+channel-moved-requires c κs = search needs
 
 returns : tie.Need-returns
-unfolding channelAfter
-returns c = rw (c .hot-after .ensures, c .before .under-after .ensures, c .before .before .over-after .ensures, c .before .before .before .flag-after .ensures, c .before .before .before .before .reading-after .ensures, c .before .before .before .before .before .latch-after .ensures)
+returns c = search kept-is
+
+returns-2 : tie.Need-returns-2
+returns-2 c = search needs
 
 pub channel-after-spec : {M : Type 1} → statement M
 channel-after-spec =
     tie.close
-    (tie.spec
-    latch-after-requires
-    reading-after-requires
-    flag-after-requires
-    over-after-requires
-    under-after-requires
-    hot-after-requires
-    returns)
+    (tie.spec passes-by-requires channel-kept-requires channel-moved-requires returns returns-2)

@@ -1,4 +1,4 @@
-use Rattle.demand.proofs.Laws.{range-pos, slope-is}
+use Rattle.demand.proofs.Laws.{slope-0, slope-1, slope-2, slope-3, slope-rest}
 use borrow.Author.Needs.{needs}
 use Rattle.demand.proofs.slope.Statement.{statement}
 use Rattle.demand.proofs.slope.Tie as tie
@@ -6,17 +6,40 @@ use Rattle.demand.proofs.slope.Tie as tie
 mul-result : tie.Need-mul-result
 mul-result c = search needs
 
-range-requires : tie.Need-range-requires
-range-requires c κs = search needs
+mul-result-2 : tie.Need-mul-result-2
+mul-result-2 c = search needs
 
 cast-result : tie.Need-cast-result
 cast-result c = search needs
 
-div-result : tie.Need-div-result
-div-result c = search range-pos
+cast-result-2 : tie.Need-cast-result-2
+cast-result-2 c = search needs
 
 returns : tie.Need-returns
-returns c = search slope-is
+returns c = slope-0 _ _ (c .match .keys1)
+
+returns-2 : tie.Need-returns-2
+returns-2 c = slope-1 _ _ (c .match .keys2)
+
+returns-3 : tie.Need-returns-3
+returns-3 c = slope-2 _ _ (c .match .keys3)
+
+returns-4 : tie.Need-returns-4
+returns-4 c = slope-3 _ _ (c .match .keys4)
+
+returns-5 : tie.Need-returns-5
+returns-5 c = slope-rest _ _ (c .match .rest)
 
 pub slope-spec : {M : Type 1} → statement M
-slope-spec = tie.close (tie.spec mul-result range-requires cast-result div-result returns)
+slope-spec =
+    tie.close
+    (tie.spec
+    mul-result
+    mul-result-2
+    cast-result
+    cast-result-2
+    returns
+    returns-2
+    returns-3
+    returns-4
+    returns-5)

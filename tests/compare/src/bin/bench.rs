@@ -1,6 +1,9 @@
-//! Times the proved replay beside the second program, on the same texts in one run: medians over rounds, as a ratio.
+//! Times the proved replay, and the engine alone, beside the second program, on the same traces in one run:
+//! medians over rounds, as a ratio.
 
-use compare::traces;
+use compare::{events, traces};
+use second::keeper::{Event, Keeper, Kind, Reply};
+use std::hint::black_box;
 use std::time::Instant;
 
 const ROUNDS: usize = 15;
@@ -40,12 +43,22 @@ fn is_whole(text: &[u8]) -> bool {
 }
 
 /// Nanoseconds that one call takes, over a round of them.
-fn time(text: &[u8], call: &mut dyn FnMut(&[u8]) -> usize) -> f64 {
-    let calls = ROUND_BYTES / text.len();
+fn time(calls: usize, call: &mut dyn FnMut()) -> f64 {
     let start = Instant::now();
-    let written: usize = (0..calls).map(|_| call(text)).sum();
-    assert!(written > 0, "a report is never empty here");
+    for _ in 0..calls {
+        call();
+    }
     start.elapsed().as_nanos() as f64 / calls as f64
+}
+
+/// The medians of both, taken by turns.
+fn medians(calls: usize, ours: &mut dyn FnMut(), theirs: &mut dyn FnMut()) -> (f64, f64) {
+    let mut times = (Vec::new(), Vec::new());
+    for _ in 0..ROUNDS {
+        times.0.push(time(calls, ours));
+        times.1.push(time(calls, theirs));
+    }
+    (median(times.0), median(times.1))
 }
 
 fn median(mut times: Vec<f64>) -> f64 {
@@ -53,30 +66,84 @@ fn median(mut times: Vec<f64>) -> f64 {
     times[times.len() / 2]
 }
 
+/// The whole replay, text to report: both programs on one text, in nanoseconds.
+fn replays(text: &[u8]) -> (f64, f64) {
+    let mut report = vec![0; 17 * text.len() + 26];
+    let mut ours = || {
+        black_box(snezhulka::replay(black_box(text), &mut report)).expect("the buffer suffices");
+    };
+    let mut theirs = || {
+        black_box(second::replay(black_box(text)));
+    };
+    medians(ROUND_BYTES / text.len(), &mut ours, &mut theirs)
+}
+
+/// The engine alone, events to outcomes, in nanoseconds. Each takes the events in its own form, made beforehand.
+fn engines(text: &[u8]) -> (f64, f64) {
+    let events = events::events_of(text).expect("every line is right");
+    let mut outcomes = vec![[0; 7]; events.len()];
+    let mut ours = || {
+        let taken = snezhulka::steps(black_box(&events), &mut outcomes);
+        assert_eq!(taken, Ok(events.len()));
+    };
+    let own_events: Vec<Event> = events.iter().map(second_event).collect();
+    let mut replies: Vec<Reply> = Vec::with_capacity(events.len());
+    let mut theirs = || {
+        let mut keeper = Keeper::new();
+        replies.clear();
+        replies.extend(
+            black_box(&own_events)
+                .iter()
+                .map(|&event| keeper.take(event)),
+        );
+        black_box(&replies);
+    };
+    medians(ROUND_BYTES / text.len(), &mut ours, &mut theirs)
+}
+
+fn second_event(&[kind, who, arg, val]: &snezhulka::Event) -> Event {
+    const KINDS: [Kind; 9] = [
+        Kind::Power,
+        Kind::Write,
+        Kind::Point,
+        Kind::Read,
+        Kind::Sample,
+        Kind::Tach,
+        Kind::Pin,
+        Kind::Clock,
+        Kind::Period,
+    ];
+    Event {
+        kind: KINDS[kind as usize],
+        who,
+        arg,
+        val,
+    }
+}
+
 /// One line: a size, and both programs on it.
 fn measure(size: usize) {
     let text = text_of(size);
     let events = text.iter().filter(|&&byte| byte == b'\n').count() as f64 / 4.0;
-    let mut report = vec![0; 17 * text.len() + 26];
-    let mut ours = |text: &[u8]| snezhulka::replay(text, &mut report).expect("the buffer suffices");
-    let mut theirs = |text: &[u8]| second::replay(text).len();
-    let mut times = (Vec::new(), Vec::new());
-    for _ in 0..ROUNDS {
-        times.0.push(time(&text, &mut ours));
-        times.1.push(time(&text, &mut theirs));
-    }
-    let (ours, theirs) = (median(times.0), median(times.1));
+    let (ours, theirs) = replays(&text);
+    let (our_engine, their_engine) = engines(&text);
     println!(
-        "{size:>7} {:>10.0} {:>10.0} {:>10.1} {:>10.1} {:>7.2}",
+        "{size:>7} {:>10.0} {:>10.0} {:>10.1} {:>10.1} {:>7.2} {:>10.0} {:>10.0} {:>7.2}",
         ours / events,
         theirs / events,
         text.len() as f64 * 1e3 / ours,
         text.len() as f64 * 1e3 / theirs,
         theirs / ours,
+        our_engine / events,
+        their_engine / events,
+        their_engine / our_engine,
     );
 }
 
 fn main() {
-    println!("  bytes   ns/event ns/event 2   MB/s text MB/s text 2  ratio");
+    println!("        whole replay                                      engine alone");
+    println!(
+        "  bytes   ns/event ns/event 2   MB/s text MB/s text 2  ratio   ns/event ns/event 2  ratio"
+    );
     SIZES.into_iter().for_each(measure);
 }
