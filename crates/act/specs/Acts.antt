@@ -2,7 +2,7 @@
 use Prim.Native.Nat.{ℕ}
 use mathlib.Core.Bool.{Bool, true, false, cond, not, _&&_, _||_}
 use lib.Dec.{eqb}
-use Rattle.num.specs.Bits.{bitOf}
+use Rattle.num.specs.Bits.{bitOf, flagOf}
 use Rattle.part.specs.declared.ChannelId.{ChannelId}
 use Rattle.part.specs.declared.ChannelId.the-variants.{Local, Remote1, Remote2}
 use Rattle.part.specs.declared.FanId.{FanId}
@@ -27,10 +27,7 @@ abbrev pub fanNumber : FanId → ℕ
 fanNumber One = 1
 fanNumber Two = 2
 
-abbrev pub flagOf : Bool → ℕ
-flagOf on = cond on 1 0
-
--- the numbers of each kind, as document 01's table has them; a sample's val is held as its reading
+-- the numbers of each kind, as document 01's table has them; a sample's val is held as its reading, and a transfer's address, once judged, is dropped
 unfoldable pub actOf : Request → Act
 actOf (ask.Power address error1 error2) = actWith kind.Power address (flagOf error1) (flagOf error2) 0
 actOf (ask.Write register byte) = actWith kind.Write 0 register byte 0

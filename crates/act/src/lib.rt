@@ -6,9 +6,10 @@ use part::FanId;
 use request::Request;
 ghost use mathlib.Core.Path.{_≡_};
 ghost use mathlib.Core.Bool.{false, cond};
-ghost use Rattle.act.specs.Acts.{actWith, flagOf, actOf, isA, channelNumber, fanNumber, samples, measures, periods, resets, fresh, writes, reads, markAfter};
+ghost use Rattle.act.specs.Acts.{actWith, actOf, isA, channelNumber, fanNumber, samples, measures, periods, resets, fresh, writes, reads, markAfter};
 
-// The kind by its place in document 01's table, and the numbers of the event; a sample's val is held as its reading.
+// The kind by its place in document 01's table, and the numbers of the event. A sample's val is held as its reading;
+// a transfer's address, once judged, is dropped.
 pub struct Act {
     pub kind: u8,
     pub who: u8,
@@ -29,12 +30,6 @@ fn with_numbers(kind: Kind, who: u8, arg: u8, val: u8, reading: u16) -> Act
     }
 }
 
-fn flag(on: bool) -> u8
-    ensures { λ n. ⌜ n ≡ flagOf on ⌝ }
-{
-    if on { 1 } else { 0 }
-}
-
 // A request as plain numbers.
 pub fn act_of(r: Request) -> Act
     ensures { λ a. ⌜ a ≡ actOf r ⌝ }
@@ -43,8 +38,8 @@ pub fn act_of(r: Request) -> Act
         Request::Power(address, error1, error2) => with_numbers(
             Kind::Power,
             address,
-            flag(error1),
-            flag(error2),
+            num::flag(error1),
+            num::flag(error2),
             0,
         ),
         Request::Write(register, byte) => with_numbers(Kind::Write, 0, register, byte, 0),
@@ -52,7 +47,7 @@ pub fn act_of(r: Request) -> Act
         Request::Read => with_numbers(Kind::Read, 0, 0, 0, 0),
         Request::Sample(c, reading) => with_numbers(Kind::Sample, channel_number(c), 0, 0, reading),
         Request::Tach(f, count) => with_numbers(Kind::Tach, fan_number(f), 0, count, 0),
-        Request::Pin(low) => with_numbers(Kind::Pin, 0, 0, flag(!low), 0),
+        Request::Pin(low) => with_numbers(Kind::Pin, 0, 0, num::flag(!low), 0),
         Request::Clock => with_numbers(Kind::Clock, 0, 0, 0, 0),
         Request::Period(f) => with_numbers(Kind::Period, fan_number(f), 0, 0, 0),
     }

@@ -5,9 +5,8 @@ use mathlib.Core.Bool.{Bool, true, false}
 use mathlib.Core.List.{List, [], _∷_}
 use lib.IntN.{ℤ, pos, negsuc}
 use lib.ListN.{replicate}
-use Rattle.num.specs.Range.{eighthsOf}
-use Rattle.num.specs.declared.Ranged.{Ranged}
-use Rattle.num.specs.declared.Ranged.the-variants.{In, Out}
+use Rattle.num.specs.Range.{eighthsOf, held}
+use Rattle.num.specs.declared.Ranged.the-variants.{In}
 use Rattle.reading.specs.Reading.{byteOf, remainderOf}
 use Rattle.reading.specs.Limits.{latchedOf, runningOf}
 use Rattle.demand.specs.Demand.{demandOf}
@@ -37,14 +36,6 @@ cards =
     ∷ ramps 240 80 8 19 88 ∷ ramps 240 80 8 20 80 ∷ ramps 240 80 8 21 80
     ∷ tach 254 255 true ∷ tach 254 254 false ∷ unfailing 255
     ∷ []
-
--- a sample of t eighths as it is held
-abbrev pub inside : Ranged → ℕ
-inside (In r) = r
-inside Out = 0
-
-abbrev pub held : ℤ → ℕ
-held t = inside (eighthsOf t)
 
 -- the byte of a limit, in two's complement
 abbrev pub limitByte : ℤ → ℕ

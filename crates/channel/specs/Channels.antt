@@ -1,6 +1,6 @@
 -- Document 01, "Temperatures, latches and cards", rules 1 to 3, 5 and 7, and "Duty in slots", rule 1: a channel after an event.
 use Prim.Native.Nat.{ℕ}
-use mathlib.Core.Bool.{Bool, true, false, cond, not, _&&_, _||_}
+use mathlib.Core.Bool.{Bool, false, cond, not, _&&_, _||_}
 use Rattle.part.specs.declared.ChannelId.{ChannelId}
 use Rattle.part.specs.declared.ChannelId.the-variants.{Local, Remote1, Remote2}
 use Rattle.part.specs.declared.FanId.{FanId}
@@ -20,7 +20,7 @@ use Rattle.channel.specs.declared.Channels.{Channels}
 abbrev pub measuredOf : Act → ℕ
 measuredOf r = r .reading
 
--- 1: the last reading; 0 after power
+-- 1: the last reading; 0, held as 1024, after power or reset
 unfoldable pub readingAfter : ChannelId → Act → ℕ → ℕ
 readingAfter c r was = cond (fresh r) 1024 (cond (samples c r) (measuredOf r) was)
 

@@ -7,7 +7,6 @@ use part::FanId;
 use stored::Limits;
 use stored::Settings;
 ghost use mathlib.Core.Path.{_≡_};
-ghost use mathlib.Core.Bool.{not, _&&_};
 ghost use Rattle.demand.specs.Demand.{tminOf};
 ghost use Rattle.channel.specs.Channels.{measuredOf, readingAfter, latchAfter, flagAfter, limitBitsIn, thermBitIn, clearsBit, overAfter, underAfter, hotAfter, passesBy, channelKept, channelAfter, channelsAfter, thermOf};
 

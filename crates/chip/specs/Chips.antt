@@ -1,6 +1,6 @@
 -- The chip after an accepted event: each part by its rule, in the order in which they depend on each other.
 use Prim.Native.Nat.{ℕ}
-use mathlib.Core.Bool.{Bool, true, false, cond, not, _&&_, _||_}
+use mathlib.Core.Bool.{Bool, false, cond, not, _&&_, _||_}
 use lib.Dec.{eqb}
 use Rattle.part.specs.declared.FanId.the-variants.{One, Two}
 use Rattle.event.specs.declared.Kind.the-variants as kind
@@ -15,7 +15,7 @@ use Rattle.fan.specs.declared.Fan.{Fan}
 use Rattle.chip.specs.declared.Front.{Front}
 use Rattle.chip.specs.declared.Chip.{Chip}
 
--- own address and diode errors come from power
+-- own address (reply 2) and diode errors (temperatures 5) come from power
 abbrev pub addressAfter : Act → ℕ → ℕ
 addressAfter r was = cond (isA kind.Power r) (r .who) was
 
@@ -25,11 +25,11 @@ error1After r was = cond (isA kind.Power r) (eqb (r .arg) 1) was
 abbrev pub error2After : Act → Bool → Bool
 error2After r was = cond (isA kind.Power r) (eqb (r .val) 1) was
 
--- the pin is high after power; a reset leaves it (temperatures 9)
+-- below the reply table: the pin is high after power; a reset leaves it (temperatures 9)
 abbrev pub lowAfter : Act → Bool → Bool
 lowAfter r was = cond (isA kind.Power r) false (cond (isA kind.Pin r) (eqb (r .val) 0) was)
 
--- the pointer is 0 after power; a write that is done sets it too, the software reset to 1
+-- below the reply table: the pointer is 0 after power; a write that is done sets it too, the software reset to 1
 abbrev pub pointerAfter : Act → ℕ → ℕ
 pointerAfter r was = cond (isA kind.Power r) 0 (cond (isA kind.Write r || isA kind.Point r) (r .arg) was)
 

@@ -9,11 +9,11 @@ use Rattle.part.specs.declared.ChannelId.the-variants.{Local, Remote1, Remote2}
 use Rattle.part.specs.declared.FanId.{FanId}
 use Rattle.part.specs.declared.FanId.the-variants.{One, Two}
 
--- Tmin steps by 4 degrees from 0 to 124: bits 7:3 of a control register
+-- preamble: Tmin steps by 4 degrees from 0 to 124: bits 7:3 of a control register
 abbrev pub tminOf : ℕ → ℕ
 tminOf control = 4 * (control / 8 % 32)
 
--- R: 5, 10, 20, 40, 80 by bits 2:0 of a control register; reply 7 keeps 5 to 7 out
+-- preamble: R is 5, 10, 20, 40, 80 by bits 2:0 of a control register; reply 7 keeps 5 to 7 out
 unfoldable pub rangeOf : ℕ → ℕ
 rangeOf control =
     cond (eqb (control % 8) 0) 5
@@ -29,7 +29,7 @@ slopeOf above range = 20 * above / range
 unfoldable pub demandOf : (flag : Bool) (m tmin range reading : ℕ) → ℕ
 demandOf flag m tmin range reading = cond flag (min 240 (16 * m + slopeOf (reading - (8 * tmin + 1024)) range)) 0
 
--- the speed code of a fan: bits 3:0 of 0x22 for fan 1, 7:4 for fan 2
+-- preamble: the speed code of a fan: bits 3:0 of 0x22 for fan 1, 7:4 for fan 2
 abbrev pub codeOf : FanId → ℕ → ℕ
 codeOf One speeds = speeds % 16
 codeOf Two speeds = speeds / 16 % 16
@@ -37,15 +37,6 @@ codeOf Two speeds = speeds / 16 % 16
 -- rule 3, bits 6, 5 of 0x00
 abbrev pub modeOf : ℕ → ℕ
 modeOf config1 = config1 / 32 % 4
-
--- remote 1 to fan 1 and remote 2 to fan 2
-abbrev pub ownOf : FanId → ChannelId → Bool
-ownOf One Local = false
-ownOf One Remote1 = true
-ownOf One Remote2 = false
-ownOf Two Local = false
-ownOf Two Remote1 = false
-ownOf Two Remote2 = true
 
 abbrev pub isRemote1 : ChannelId → Bool
 isRemote1 Local = false
@@ -56,6 +47,11 @@ abbrev pub isRemote2 : ChannelId → Bool
 isRemote2 Local = false
 isRemote2 Remote1 = false
 isRemote2 Remote2 = true
+
+-- remote 1 to fan 1 and remote 2 to fan 2
+abbrev pub ownOf : FanId → ChannelId → Bool
+ownOf One c = isRemote1 c
+ownOf Two c = isRemote2 c
 
 -- rule 3: each its own; remote 1 to both; remote 2 to both; all three to both
 unfoldable pub assignedOf : (mode : ℕ) → FanId → ChannelId → Bool

@@ -1,5 +1,5 @@
 -- Document 01, "Duty in slots", rules 5 to 7: what one event does to a fan.
-use Prim.Native.Nat.{ℕ, _+_, _-_, _/_, _%_}
+use Prim.Native.Nat.{ℕ, _-_, _%_}
 use mathlib.Core.Bool.{Bool, cond, _&&_, _||_}
 use lib.Dec.{ltb, eqb}
 use Rattle.drive.specs.Ramp.{nearerOf}

@@ -13,6 +13,7 @@ rateOf filter =
     (cond (eqb (filter / 32 % 4) 1) 2
     (cond (eqb (filter / 32 % 4) 2) 4 8))
 
+-- nearer to the target by an amount, never past it
 unfoldable pub nearerOf : (amount target duty : ℕ) → ℕ
 nearerOf amount target duty = cond (ltb duty target) (min (duty + amount) target) (max (duty - amount) target)
 

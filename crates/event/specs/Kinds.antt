@@ -4,7 +4,6 @@ use mathlib.Core.Bool.{Bool}
 use mathlib.Core.List.{List, [], _∷_}
 use lib.Dec.{eqb}
 use Rattle.event.specs.declared.Numbers.{Numbers}
-use Rattle.event.specs.declared.Transfer.{Transfer}
 use Rattle.event.specs.declared.Transfer.the-variants as transfer
 use Rattle.event.specs.declared.Event.{Event}
 use Rattle.event.specs.declared.Event.the-variants as event

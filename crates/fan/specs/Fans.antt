@@ -1,7 +1,6 @@
 -- Document 01, "Duty in slots" and "Tach counts": a fan after an event.
 use Prim.Native.Nat.{ℕ}
-use mathlib.Core.Bool.{Bool, true, false, cond, not, _&&_, _||_}
-use Rattle.part.specs.declared.ChannelId.{ChannelId}
+use mathlib.Core.Bool.{Bool, false, cond, not, _&&_}
 use Rattle.part.specs.declared.FanId.{FanId}
 use Rattle.event.specs.declared.Kind.the-variants as kind
 use Rattle.demand.specs.Demand.{tminOf, rangeOf, demandOf, codeOf, targetOf, overriddenOf}
@@ -10,7 +9,6 @@ use Rattle.drive.specs.Drive.{spinUpOf, drivenOf, alarmOf}
 use Rattle.drive.specs.Tach.{judgedOf, failedOf, runOf}
 use Rattle.drive.specs.declared.Setting.{Setting}
 use Rattle.drive.specs.declared.Beat.{Beat}
-use Rattle.drive.specs.declared.Drive.{Drive}
 use Rattle.act.specs.declared.Act.{Act}
 use Rattle.act.specs.Acts.{isA, measures, periods, fresh, reads, markAfter}
 use Rattle.stored.specs.Stored.{statusAt, outputEnabled, tachEnabled, filterEnabled}
@@ -22,7 +20,7 @@ use Rattle.channel.specs.declared.Channels.{Channels}
 use Rattle.channel.specs.Channels.{thermOf}
 use Rattle.fan.specs.declared.Fan.{Fan}
 
--- what a channel demands of a fan
+-- duty 2: what a channel demands of a fan
 abbrev pub channelDemand : FanId → (speeds : ℕ) → Limits → Channel → ℕ
 channelDemand f speeds l ch = demandOf (ch .flag) (codeOf f speeds) (tminOf (l .control)) (rangeOf (l .control)) (ch .reading)
 
@@ -38,7 +36,7 @@ fanTarget f s cs =
 abbrev pub overrideOf : (low : Bool) → Settings → Channels → Bool
 overrideOf low s cs = overriddenOf low (s .behaviour) (thermOf cs)
 
--- what registers, pin and channels ask of a fan
+-- duty 3 to 6: what registers, pin and channels ask of a fan
 unfoldable pub settingOf : FanId → (low : Bool) → Settings → FanBytes → Channels → Setting
 settingOf f low s b cs =
     record {
@@ -50,7 +48,7 @@ settingOf f low s b cs =
       «spin_up» = spinUpOf (b .characteristics);
     }
 
--- a fan before which nothing was: "duties count as 0 before" power and reset (temperatures 9)
+-- the fan as it counts before a power or reset: "duties count as 0 before it" (temperatures 9)
 abbrev pub stopped : Fan
 stopped = record { drive = record { duty = 0; left = 0 }; run = 0; alarmed = false; alarm = false; fault = false }
 
@@ -68,7 +66,7 @@ failsFan f tach limit r duty left = failedOf (judgesFan f tach r duty left) limi
 abbrev pub beatOf : FanId → (failed : Bool) → Act → Beat
 beatOf f failed r = record { clock = isA kind.Clock r; period = periods f r; failed = failed }
 
--- the run of failures: ended by the tach bit being 0 too
+-- tach counts: the run of failures, ended by the tach bit being 0 too
 abbrev pub fanRun : (tach judged failed : Bool) → ℕ → ℕ
 fanRun tach judged failed was = cond tach (runOf judged failed was) 0
 

@@ -1,10 +1,11 @@
 -- Demand 3 holds of every list of events, where the program shows the duties of the rules. Assumes nothing.
 use Prim.Native.Nat.{ℕ, _-_, _*_, _<_}
-use mathlib.Core.Path.{_≡_, refl, sym, _∙_}
-use mathlib.Core.Bool.{Bool, true, false, _&&_, _||_}
+use mathlib.Core.Path.{_≡_, refl, sym, ap, _∙_}
+use mathlib.Core.Bool.{Bool, true, false, not, _&&_, _||_}
 use mathlib.Core.List.{List, _++_}
 use native.Mathlib.Omega.{arith}
-use lib.Dec.{ltb}
+use lib.Dec.{ltb, eqb}
+use borrow.Author.Tests.{eqb-true, eqb-false}
 use Rattle.part.specs.declared.FanId.{FanId}
 use Rattle.event.specs.declared.Event.{Event}
 use Rattle.drive.specs.Ramp.{outside, nearerOf}
@@ -13,6 +14,7 @@ use Rattle.drive.proofs.DriveLaws.{wanted}
 use Rattle.history.specs.Events.{History}
 use Rattle.history.specs.Duties.{setting, spin, duty, spinLeft, periodsIn}
 use Rattle.history.specs.Demand3.{shownDuty, enabled, filtered, target, rate, overridden, Settled, Stretch, Steady, Demand3}
+use Rattle.history.proofs.HistoryLaws.{by-cases}
 use Rattle.history.proofs.SpinLaws.{override-is, sound}
 use Rattle.history.proofs.StretchLaws.{settled-at-end, split, filter-kept, spin-falls, duty-nears}
 
@@ -65,12 +67,19 @@ module _ (shown-is : (f : FanId) (h : History) → shownDuty f h ≡ duty f h) w
           above = λ p l. rw (shown p) (nearer-above _ d (duty f h) l .0);
         }
 
+  zero-is : (f : FanId) (now : History) → eqb (shownDuty f now) 0 ≡ not (enabled f now && (overridden now || ltb 0 (target f now)))
+  zero-is f now =
+      by-cases (eqb (shownDuty f now) 0)
+      (λ z. z ∙ sym (ap not (at-zero f now (sym (shown-is f now) ∙ eqb-true (shownDuty f now) 0 z))))
+      (λ z. by-cases (enabled f now && (overridden now || ltb 0 (target f now)))
+      (λ w. z ∙ sym (ap not w))
+      (λ w. absurd (eqb-false (shownDuty f now) 0 z (shown-is f now ∙ at-rest f now w))))
+
   pub demand3 : (es : History) → Demand3 es
   demand3 es =
       record {
         full = λ f later now q on over. shown-is f now ∙ at-full f now on over;
         steady = λ f d later t s before q pos st z. steady f d t (s ++ before) pos (split f d t s before st) z;
         spin = λ f d later s before q pos st. spin-falls f d pos s before st;
-        still = λ f later now q z. at-zero f now (sym (shown-is f now) ∙ z);
-        moving = λ f later now q w. shown-is f now ∙ at-rest f now w;
+        zero = λ f later now q. zero-is f now;
       }

@@ -6,4 +6,5 @@ pub mod Demand1Laws
 pub mod Demand3Laws
 pub mod StateLaws
 pub mod ValueLaws
+pub mod ReadbackLaws
 pub mod Agree

@@ -13,7 +13,8 @@ use Rattle.event.specs.declared.Event.the-variants as event
 use Rattle.event.specs.declared.Transfer.the-variants as transfer
 use Rattle.event.specs.declared.Kind.{Kind}
 use Rattle.event.specs.declared.Kind.the-variants as kind
-use Rattle.request.specs.Request.{natural, asked}
+use Rattle.num.specs.Range.{natural}
+use Rattle.request.specs.Request.{asked}
 use Rattle.request.specs.Replies.{replyOf, accepts}
 use Rattle.act.specs.Acts.{actOf, isA}
 use Rattle.stored.specs.Stored.{storedAfter, limitsAfter, fanBytesAfter, settingsAfter}

@@ -1,18 +1,16 @@
 -- The agreement: what stepping a keeper that never had power through a list of events answers and shows is what the rules say of that list.
 use Prim.Native.Nat.{ℕ}
 use mathlib.Core.Path.{_≡_}
-use mathlib.Core.Bool.{Bool, cond, not}
+use mathlib.Core.Bool.{cond}
 use mathlib.Core.List.{List, [], _∷_}
 use lib.Dec.{ltb}
 use lib.ListN.{length}
 use lib.Seq.{sets}
 use Rattle.event.specs.declared.Event.{Event}
-use Rattle.event.specs.declared.Answer.{Answer}
 use Rattle.event.specs.declared.Answer.the-variants.{Done, NoPower, WrongSize}
 use Rattle.keeper.specs.Keeping.{answerOf, shownBy, imageAnswer, imageBuffer}
 use Rattle.keeper.specs.declared.Keeper.{Keeper}
 use Rattle.keeper.specs.declared.Keeper.the-variants.{Off}
-use Rattle.keeper.specs.declared.Answered.{Answered}
 use Rattle.history.specs.Events.{History, powered}
 use Rattle.history.specs.Shows.{shown, answer, valuesFrom}
 

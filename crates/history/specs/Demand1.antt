@@ -9,7 +9,6 @@ use Rattle.stored.specs.Stored.{monitors}
 use Rattle.keeper.specs.Keeping.{answerOf}
 use Rattle.keeper.specs.declared.Keeper.{Keeper}
 use Rattle.keeper.specs.declared.Keeper.the-variants.{Off, On}
-use Rattle.keeper.specs.declared.Answered.{Answered}
 
 -- what a reply asks of a keeper
 abbrev pub isOn : Keeper → Bool

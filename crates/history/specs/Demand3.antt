@@ -1,15 +1,14 @@
 -- Demand 3, over every list of events, the newest first.
 use Prim.Native.Nat.{ℕ, _+_, _-_, _*_, _<_, _≤_}
 use mathlib.Core.Path.{_≡_}
-use mathlib.Core.Bool.{Bool, true, false, _&&_, _||_}
+use mathlib.Core.Bool.{Bool, true, false, not, _&&_, _||_}
 use mathlib.Core.List.{List, [], _∷_, _++_}
-use lib.Dec.{ltb}
+use lib.Dec.{ltb, eqb}
 use Rattle.part.specs.declared.FanId.{FanId}
 use Rattle.part.specs.declared.FanId.the-variants.{One, Two}
 use Rattle.event.specs.Kinds.{isKind}
 use Rattle.event.specs.declared.Event.{Event}
 use Rattle.event.specs.declared.Kind.the-variants as kind
-use Rattle.event.specs.declared.Shown.{Shown}
 use Rattle.num.specs.Bits.{bitOf}
 use Rattle.keeper.specs.Keeping.{shownBy}
 use Rattle.drive.specs.Ramp.{outside}
@@ -37,7 +36,7 @@ target f h = setting f h .target
 abbrev pub rate : FanId → History → ℕ
 rate f h = setting f h .rate
 
--- THERM is pulled low from outside, or is asserted with its fan bit set
+-- duty 4: THERM is pulled low from outside, or is asserted with its fan bit set
 unfoldable pub overridden : History → Bool
 overridden h = pinLow h || (bitOf (stored 0x3F h) 7 && thermAsserted h)
 
@@ -83,9 +82,6 @@ pub record Demand3 (es : History) : Type 0 where
       (f : FanId) (d : ℕ) (later s before : History) → es ≡ later ++ (s ++ before) →
       0 < d → Stretch f d s before → spinLeft f (s ++ before) ≡ spinLeft f before - clocksIn s before
   -- the duty is 0 exactly where the fan is disabled, or its target is 0 and it isn't overridden
-  pub still :
+  pub zero :
       (f : FanId) (later now : History) → es ≡ later ++ now →
-      shownDuty f now ≡ 0 → (enabled f now && (overridden now || ltb 0 (target f now))) ≡ false
-  pub moving :
-      (f : FanId) (later now : History) → es ≡ later ++ now →
-      (enabled f now && (overridden now || ltb 0 (target f now))) ≡ false → shownDuty f now ≡ 0
+      eqb (shownDuty f now) 0 ≡ not (enabled f now && (overridden now || ltb 0 (target f now)))

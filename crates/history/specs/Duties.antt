@@ -1,13 +1,13 @@
 -- Document 01, "Duty in slots" and "Tach counts", over the list of events: what a fan does.
-use Prim.Native.Nat.{ℕ, zero, suc, _-_}
-use mathlib.Core.Bool.{Bool, true, false, cond, not, _&&_, _||_}
+use Prim.Native.Nat.{ℕ, suc, _-_}
+use mathlib.Core.Bool.{Bool, false, cond, not, _&&_, _||_}
 use mathlib.Core.List.{List, [], _∷_, _++_}
 use lib.Dec.{ltb, eqb}
 use Rattle.part.specs.declared.FanId.{FanId}
 use Rattle.event.specs.Kinds.{isKind}
 use Rattle.event.specs.declared.Event.{Event}
 use Rattle.event.specs.declared.Kind.the-variants as kind
-use Rattle.act.specs.Acts.{isA, periods, fresh, reads, markAfter}
+use Rattle.act.specs.Acts.{periods, fresh, reads, markAfter}
 use Rattle.drive.specs.Drive.{dutyOf, startsOf, alarmOf}
 use Rattle.drive.specs.declared.Setting.{Setting}
 use Rattle.drive.specs.declared.Beat.{Beat}
@@ -35,21 +35,21 @@ left w = w .given - w .since
 abbrev pub still : Spin
 still = record { duty = 0; given = 0; since = 0 }
 
--- a spin-up ends early when the duty becomes 0
+-- rule 6: a spin-up ends early when the duty becomes 0
 abbrev pub spinAt : (duty given since : ℕ) → Spin
 spinAt duty given since = cond (eqb duty 0) still (record { duty = duty; given = given; since = since })
 
 abbrev pub givenAfter : Setting → Beat → Spin → ℕ
 givenAfter s b w = cond (startsOf s b (w .duty)) (s .«spin_up») (w .given)
 
--- an event that starts it does not also count it down
+-- rule 6: an event that starts it does not also count it down
 abbrev pub sinceAfter : Setting → Beat → Spin → ℕ
 sinceAfter s b w = cond (startsOf s b (w .duty)) 0 (cond (b .clock) (suc (w .since)) (w .since))
 
 unfoldable pub spinAfter : Setting → Beat → Spin → Spin
 spinAfter s b w = spinAt (dutyOf s (b .period) (ltb 0 (givenAfter s b w - sinceAfter s b w)) (w .duty)) (givenAfter s b w) (sinceAfter s b w)
 
--- duties count as 0 before power and reset
+-- temperatures 9: duties count as 0 before power and reset
 abbrev pub priorSpin : Event → Spin → Spin
 priorSpin e w = cond (fresh (act e)) still w
 
@@ -87,7 +87,7 @@ judged f e h = accepted e h && judgesWith f e h (priorSpin e (spin f h))
 unfoldable pub failed : FanId → Event → History → Bool
 failed f e h = accepted e h && failsWith f e h (priorSpin e (spin f h))
 
--- the failures in a row: each failed measurement counts one, any other judged count and the tach bit at 0 end the row
+-- the failures in a row, counted without end where 01 holds at 5: any other judged count, the tach bit at 0, power and reset end the row
 unfoldable pub failures : FanId → History → ℕ
 failures f [] = 0
 failures f (e ∷ h) =
@@ -110,6 +110,7 @@ alarmBit f [] = false
 alarmBit f (e ∷ h) =
     unless e h (markAfter (entersAlarm f e h) (reads (statusAt f) (pointer h) (act e)) (cond (fresh (act e)) false (alarmBit f h))) (alarmBit f h)
 
+-- tach counts; a read clears it (temperatures 5), as it does the alarm bit
 unfoldable pub faultBit : FanId → History → Bool
 faultBit f [] = false
 faultBit f (e ∷ h) =

@@ -1,6 +1,6 @@
 -- The rules over the list of events, the newest first, with no regard to the program: power, replies, registers, bus and pin.
 use Prim.Native.Nat.{ℕ}
-use mathlib.Core.Bool.{Bool, true, false, cond, _&&_, _||_}
+use mathlib.Core.Bool.{Bool, false, cond, _&&_, _||_}
 use mathlib.Core.List.{List, [], _∷_}
 use Rattle.num.specs.Bits.{bitOf}
 use Rattle.part.specs.declared.ChannelId.{ChannelId}
@@ -11,7 +11,8 @@ use Rattle.event.specs.Kinds.{isKind, numbersOf}
 use Rattle.event.specs.declared.Event.{Event}
 use Rattle.event.specs.declared.Kind.the-variants as kind
 use Rattle.event.specs.declared.Answer.{Answer}
-use Rattle.request.specs.Request.{natural, asked}
+use Rattle.num.specs.Range.{natural}
+use Rattle.request.specs.Request.{asked}
 use Rattle.request.specs.Replies.{replyOf, accepts}
 use Rattle.act.specs.Acts.{actOf}
 use Rattle.act.specs.declared.Act.{Act}
@@ -57,7 +58,7 @@ accepted e h = accepts (reply e h)
 abbrev pub unless : {A : Type 0} → Event → History → (now was : A) → A
 unless e h now was = cond (accepted e h) now was
 
--- the pointer, the pin (low from outside), the diode errors, and bit 7 of 0x03
+-- the pointer, the pin (low from outside), the diode errors (temperatures 5), and bit 7 of 0x03 (temperatures 5, 6, 9)
 unfoldable pub pointer : History → ℕ
 pointer [] = 0
 pointer (e ∷ h) = unless e h (pointerAfter (act e) (pointer h)) (pointer h)

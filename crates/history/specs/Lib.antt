@@ -5,3 +5,4 @@ pub mod Shows
 pub mod Agreement
 pub mod Demand1
 pub mod Demand3
+pub mod Readback

@@ -1,10 +1,9 @@
 -- What the rules say is shown and answered after a list of events.
 use Prim.Native.Nat.{ℕ, zero, suc}
-use mathlib.Core.Bool.{Bool, true, false, cond, _&&_, _||_}
+use mathlib.Core.Bool.{Bool, cond, _&&_, _||_}
 use mathlib.Core.List.{List, [], _∷_}
 use lib.Dec.{leb}
-use Rattle.num.specs.Bits.{bitOf}
-use Rattle.part.specs.declared.ChannelId.{ChannelId}
+use Rattle.num.specs.Bits.{bitOf, flagOf}
 use Rattle.part.specs.declared.ChannelId.the-variants.{Local, Remote1, Remote2}
 use Rattle.part.specs.declared.FanId.{FanId}
 use Rattle.part.specs.declared.FanId.the-variants.{One, Two}
@@ -20,7 +19,7 @@ use Rattle.register.specs.declared.Register.{Register}
 use Rattle.register.specs.declared.Register.the-variants as register
 use Rattle.register.specs.declared.Found.{Found}
 use Rattle.register.specs.declared.Found.the-variants.{At, Nowhere}
-use Rattle.output.specs.Outputs.{packed, flag}
+use Rattle.output.specs.Outputs.{packed}
 use Rattle.history.specs.Events.{History, stored, reply, accepted, pointer, diodeError1, diodeError2, pulled}
 use Rattle.history.specs.Temperatures.{reading, enabledChannel, highBit, lowBit, thermBit, thermAsserted}
 use Rattle.history.specs.Duties.{duty, failures, alarmBit, faultBit}
@@ -85,9 +84,9 @@ faultAsserted h = bitOf (stored 0x00 h) 4 && (leb 5 (failures One h) || leb 5 (f
 unfoldable pub shown : History → Shown
 shown h =
     record {
-      int = flag (intAsserted h);
-      therm = flag (thermAsserted h);
-      fault = flag (faultAsserted h);
+      int = flagOf (intAsserted h);
+      therm = flagOf (thermAsserted h);
+      fault = flagOf (faultAsserted h);
       duty1 = duty One h;
       duty2 = duty Two h;
     }

@@ -1,11 +1,11 @@
 -- Document 01, "Temperatures, latches and cards", over the list of events: readings, latches, run flags and status bits of a channel.
 use Prim.Native.Nat.{ℕ}
-use mathlib.Core.Bool.{Bool, true, false, cond, _||_}
-use mathlib.Core.List.{List, [], _∷_}
+use mathlib.Core.Bool.{Bool, false, _||_}
+use mathlib.Core.List.{[], _∷_}
 use Rattle.part.specs.declared.ChannelId.{ChannelId}
 use Rattle.part.specs.declared.ChannelId.the-variants.{Local, Remote1, Remote2}
 use Rattle.stored.specs.Stored.{highAt, lowAt, thermAt, controlAt, channelEnabled}
-use Rattle.channel.specs.Channels.{readingAfter, latchAfter, flagAfter, overAfter, underAfter, hotAfter, thermOf}
+use Rattle.channel.specs.Channels.{readingAfter, latchAfter, flagAfter, overAfter, underAfter, hotAfter}
 use Rattle.channel.specs.declared.Channel.{Channel}
 use Rattle.channel.specs.declared.Channels.{Channels}
 use Rattle.history.specs.Events.{History, act, stored, unless, pointer}

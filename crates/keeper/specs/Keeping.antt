@@ -1,6 +1,6 @@
 -- The keeper: off, or a chip that has power. What each event is answered, and what is shown.
 use Prim.Native.Nat.{ℕ, zero, suc}
-use mathlib.Core.Bool.{Bool, true, false, cond}
+use mathlib.Core.Bool.{true, false, cond}
 use mathlib.Core.List.{List, [], _∷_}
 use lib.Dec.{ltb}
 use lib.ListN.{length}
@@ -27,7 +27,7 @@ use Rattle.keeper.specs.declared.Keeper.{Keeper}
 use Rattle.keeper.specs.declared.Keeper.the-variants.{Off, On}
 use Rattle.keeper.specs.declared.Answered.{Answered}
 
--- what power starts from: it starts afresh, whatever was
+-- what power starts from: it starts afresh, whatever was, and sets each of these
 abbrev pub noLimits : Limits
 noLimits = record { offset = 0; high = 0; low = 0; therm = 0; control = 0 }
 
@@ -81,7 +81,7 @@ unfoldable pub shownBy : Keeper → Shown
 shownBy Off = record { int = 0; therm = 0; fault = 0; duty1 = 0; duty2 = 0 }
 shownBy (On c) = output.shownOf c
 
--- the register image: place a holds what a read of a would return
+-- the register image (below the reply table): place a holds what a read of a would return
 unfoldable pub valuesFrom : (from count : ℕ) → Chip → List ℕ
 valuesFrom a zero c = []
 valuesFrom a (suc n) c = output.valueAt c a ∷ valuesFrom (suc a) n c

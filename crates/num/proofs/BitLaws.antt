@@ -1,14 +1,11 @@
--- A merged byte has each bit from where the mask says; a bit that was set reads back. Assumes nothing.
+-- A merged byte has each bit from where the mask says. Assumes nothing.
 use Prim.Native.Nat.{ℕ, zero, suc, _-_, _/_, _%_, _^_, _<_}
-use mathlib.Core.Bool.{Bool, true, false, cond}
+use mathlib.Core.Bool.{cond}
 use mathlib.Core.Path.{_≡_, refl, ap, _∙_}
 use native.Mathlib.Omega.{arith}
-use native.Mathlib.Nat.{zero-div}
-use borrow.Author.Tests.{le-ltb}
-use lib.Pow.{pow-lt}
 use lib.Bits.{bitAnd, bitOr, and-shr, or-shr, and-mod, or-mod}
 use lib.Dec.{eqb}
-use Rattle.num.specs.Bits.{bitOf, mergedOf, withBitOf}
+use Rattle.num.specs.Bits.{bitOf, mergedOf}
 
 -- what holds of each place from 0 to 7
 at-eight : (P : ℕ → Type 0) → P 0 → P 1 → P 2 → P 3 → P 4 → P 5 → P 6 → P 7 → (p : ℕ) → p < 8 → P p
@@ -27,19 +24,6 @@ complement : (m : ℕ) → m < 256 → (p : ℕ) → p < 8 → (255 - m) / 2 ^ p
 complement m l =
     at-eight (λ (p : ℕ). (255 - m) / 2 ^ p % 2 ≡ 1 - m / 2 ^ p % 2)
     (omega arith) (omega arith) (omega arith) (omega arith) (omega arith) (omega arith) (omega arith) (omega arith)
-
--- the weight of a place has a bit there and nowhere else
-weight-bit : (p : ℕ) → p < 8 → (q : ℕ) → q < 8 → bitOf (2 ^ p) q ≡ eqb p q
-weight-bit =
-    at-eight (λ (p : ℕ). (q : ℕ) → q < 8 → bitOf (2 ^ p) q ≡ eqb p q)
-    (at-eight (λ (q : ℕ). bitOf (2 ^ 0) q ≡ eqb 0 q) refl refl refl refl refl refl refl refl)
-    (at-eight (λ (q : ℕ). bitOf (2 ^ 1) q ≡ eqb 1 q) refl refl refl refl refl refl refl refl)
-    (at-eight (λ (q : ℕ). bitOf (2 ^ 2) q ≡ eqb 2 q) refl refl refl refl refl refl refl refl)
-    (at-eight (λ (q : ℕ). bitOf (2 ^ 3) q ≡ eqb 3 q) refl refl refl refl refl refl refl refl)
-    (at-eight (λ (q : ℕ). bitOf (2 ^ 4) q ≡ eqb 4 q) refl refl refl refl refl refl refl refl)
-    (at-eight (λ (q : ℕ). bitOf (2 ^ 5) q ≡ eqb 5 q) refl refl refl refl refl refl refl refl)
-    (at-eight (λ (q : ℕ). bitOf (2 ^ 6) q ≡ eqb 6 q) refl refl refl refl refl refl refl refl)
-    (at-eight (λ (q : ℕ). bitOf (2 ^ 7) q ≡ eqb 7 q) refl refl refl refl refl refl refl refl)
 
 -- one bit: new where the mask is 1, else old
 merged-bit : (o n m : ℕ) → o < 2 → n < 2 → m < 2 → eqb (bitOr (bitAnd o (1 - m)) (bitAnd n m)) 1 ≡ cond (eqb m 1) (eqb n 1) (eqb o 1)
@@ -78,17 +62,3 @@ module _ (mask old new place : ℕ) (byte : mask < 256) (h : place < 8) where
   bit-merged =
       ap (λ (x : ℕ). eqb x 1) merged-digit
       ∙ merged-bit (old / 2 ^ place % 2) (new / 2 ^ place % 2) (mask / 2 ^ place % 2) (omega arith) (omega arith) (omega arith)
-
-full : (p : ℕ) → p < 8 → bitOf 255 p ≡ true
-full = at-eight (λ (p : ℕ). bitOf 255 p ≡ true) refl refl refl refl refl refl refl refl
-
-all-bits : (p : ℕ) (on : Bool) → p < 8 → bitOf (cond on 255 0) p ≡ on
-all-bits p true h = full p h
-all-bits p false h = rw (zero-div (2 ^ p))
-
--- a bit that was set reads back, and the others are as they were
-pub bit-set : (byte place : ℕ) (on : Bool) → place < 8 → (q : ℕ) → q < 8 → bitOf (withBitOf byte place on) q ≡ cond (eqb place q) on (bitOf byte q)
-unfolding withBitOf
-bit-set byte place on h q l =
-    rw (le-ltb 7 place (omega arith))
-    (bit-merged (2 ^ place) byte (cond on 255 0) q (pow-lt {j = 8} h) l ∙ rw (weight-bit place h q l, all-bits q on l))

@@ -1,19 +1,19 @@
--- What an i32 tells after a test of its sign, and the weights of a byte's bits. Assumes nothing.
-use Prim.Native.Nat.{ℕ, zero, suc, _+_, _-_, _*_, _/_, _%_, _^_, _<_, _≤_}
-use mathlib.Core.Bool.{Bool, true, false, _&&_}
+-- What an i32 tells after a test of its sign; a byte has no bit past place 7. Assumes nothing.
+use Prim.Native.Nat.{ℕ, zero, suc, _+_, _-_, _/_, _^_, _<_, _≤_}
+use mathlib.Core.Bool.{true, false}
 use mathlib.Core.Path.{_≡_, refl, sym, ap, _∙_}
 use native.Mathlib.Omega.{arith}
-use native.Mathlib.Nat.{zero-add, one-mul, div-eq-of-lt, mod-eq-of-lt}
-use lib.Pow.{pow-mono, pow-lt}
+use native.Mathlib.Nat.{zero-add, div-eq-of-lt}
+use lib.Pow.{pow-mono}
 use borrow.Author.Tests.{ltb-true, lt-ltb, le-ltb}
-use lib.Dec.{leb, eqb}
+use lib.Dec.{eqb}
 use lib.IntN.{ℤ, pos, negsuc, _-ℤ_}
 use lib.Signed.{mag, ltZ}
 use mir.Syntax.{w32}
 use mir.Val.{toZ, ofZ, SFits}
 use mir.ValLaws.{toZ-ofZ, toZ-pos}
-use Rattle.num.specs.Bits.{bitOf, mergedOf, withBitOf}
-use Rattle.num.specs.Range.{splitOf, signedOf, is, within, belowOf, eighthsOf}
+use Rattle.num.specs.Bits.{bitOf}
+use Rattle.num.specs.Range.{splitOf, signedOf, is, belowOf, eighthsOf}
 use Rattle.num.specs.declared.Split.{Split}
 use Rattle.num.specs.declared.Split.the-variants.{Nat, Neg}
 use Rattle.num.specs.declared.Signed.the-variants.{Number, Beyond}
@@ -76,14 +76,6 @@ module _ (v : ℤ) (fits : SFits w32 v) {s : Split} (e : s ≡ splitOf (toZ w32 
   unfolding is
   is-never n q = rw (is-neg q)
 
-  pub within-nat : {m : ℕ} (low high : ℕ) → s ≡ Nat m → (leb low m && leb m high) ≡ within low high v
-  unfolding within
-  within-nat low high q = rw (is-pos q)
-
-  pub within-never : {m : ℕ} (low high : ℕ) → s ≡ Neg m → false ≡ within low high v
-  unfolding within
-  within-never low high q = rw (is-neg q)
-
   pub below-in : {n end : ℕ} → s ≡ Nat n → n < end → In n ≡ belowOf v end
   unfolding belowOf
   below-in {n} {end} q h = rw (is-pos q, lt-ltb n end h)
@@ -139,19 +131,3 @@ no-bit byte place h l =
     let p : 2 ^ 8 ≤ 2 ^ place = pow-mono {i = 8} (omega arith) in
     let z : byte / 2 ^ place ≡ 0 = div-eq-of-lt (omega arith) in
     rw z
-
-weight : (place : ℕ) → place ≤ 7 → 1 * 2 ^ place % 256 ≡ 2 ^ place
-weight place h = ap (λ (x : ℕ). x % 256) (one-mul (2 ^ place)) ∙ mod-eq-of-lt (pow-lt {j = 8} (omega arith))
-
-module _ (byte place : ℕ) (on : Bool) where
-  pub with-bit-none : 7 < place → byte ≡ withBitOf byte place on
-  unfolding withBitOf
-  with-bit-none h = rw (lt-ltb 7 place h)
-
-  pub with-bit-on : {r : ℕ} → place ≤ 7 → on ≡ true → r ≡ mergedOf (1 * 2 ^ place % 256) byte 255 → r ≡ withBitOf byte place on
-  unfolding withBitOf
-  with-bit-on h t e = rw (le-ltb 7 place h, t) (e ∙ ap (λ (w : ℕ). mergedOf w byte 255) (weight place h))
-
-  pub with-bit-off : {r : ℕ} → place ≤ 7 → on ≡ false → r ≡ mergedOf (1 * 2 ^ place % 256) byte 0 → r ≡ withBitOf byte place on
-  unfolding withBitOf
-  with-bit-off h t e = rw (le-ltb 7 place h, t) (e ∙ ap (λ (w : ℕ). mergedOf w byte 0) (weight place h))

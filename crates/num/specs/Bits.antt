@@ -2,7 +2,7 @@
 use Prim.Native.Nat.{ℕ, _-_, _/_, _%_, _^_}
 use mathlib.Core.Bool.{Bool, cond}
 use lib.Bits.{bitAnd, bitOr}
-use lib.Dec.{ltb, eqb}
+use lib.Dec.{eqb}
 
 abbrev pub bitOf : ℕ → ℕ → Bool
 bitOf byte place = eqb (byte / 2 ^ place % 2) 1
@@ -11,7 +11,6 @@ bitOf byte place = eqb (byte / 2 ^ place % 2) 1
 unfoldable pub mergedOf : (mask old new : ℕ) → ℕ
 mergedOf mask old new = bitOr (bitAnd old (255 - mask)) (bitAnd new mask)
 
--- the byte with that bit on or off; a place past 7 is none
-unfoldable pub withBitOf : (byte place : ℕ) → Bool → ℕ
-unfolding mergedOf
-withBitOf byte place on = cond (ltb 7 place) byte (mergedOf (2 ^ place) byte (cond on 255 0))
+-- 1 for on, 0 for off
+abbrev pub flagOf : Bool → ℕ
+flagOf on = cond on 1 0

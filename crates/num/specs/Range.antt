@@ -38,3 +38,17 @@ belowOf (negsuc n) end = Out
 unfoldable pub eighthsOf : ℤ → Ranged
 eighthsOf (pos n) = cond (ltb n 1024) (In (1024 + n)) Out
 eighthsOf (negsuc n) = cond (ltb n 1024) (In (1023 - n)) Out
+
+-- what is inside its range, and 0 for what isn't
+abbrev pub inside : Ranged → ℕ
+inside (In n) = n
+inside Out = 0
+
+-- a sample's eighths as they are held, with 1024 added
+abbrev pub held : ℤ → ℕ
+held t = inside (eighthsOf t)
+
+-- a number from 0 up; a negative one counts as 0
+abbrev pub natural : ℤ → ℕ
+natural (pos n) = n
+natural (negsuc n) = 0

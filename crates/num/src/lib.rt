@@ -1,8 +1,8 @@
 // The border with signed numbers, and the bits of a byte.
 // Nothing above this crate has a signed operation.
 ghost use mathlib.Core.Path.{_≡_};
-ghost use Rattle.num.specs.Range.{splitOf, signedOf, is, within, belowOf, eighthsOf};
-ghost use Rattle.num.specs.Bits.{bitOf, withBitOf, mergedOf};
+ghost use Rattle.num.specs.Range.{splitOf, signedOf, is, belowOf, eighthsOf};
+ghost use Rattle.num.specs.Bits.{bitOf, mergedOf, flagOf};
 
 // A number by its sign: `Nat(n)` is n, `Neg(n)` is -(n + 1).
 pub enum Split {
@@ -49,16 +49,6 @@ pub fn equals(v: i32, n: u16) -> bool
 {
     match by_sign(v) {
         Split::Nat(m) => m == n as u32,
-        Split::Neg(_) => false,
-    }
-}
-
-// Whether a number lies from low to high.
-pub fn lies_within(low: u16, high: u16, v: i32) -> bool
-    ensures { λ r. ⌜ r ≡ within low high v ⌝ }
-{
-    match by_sign(v) {
-        Split::Nat(m) => (low as u32 <= m) & (m <= high as u32),
         Split::Neg(_) => false,
     }
 }
@@ -118,16 +108,9 @@ pub fn merged(mask: u8, old: u8, new: u8) -> u8
     (old & (255 - mask)) | (new & mask)
 }
 
-// The byte with that bit on or off.
-pub fn with_bit(byte: u8, place: u8, on: bool) -> u8
-    ensures { λ r. ⌜ r ≡ withBitOf byte place on ⌝ }
+// 1 for on, 0 for off.
+pub fn flag(on: bool) -> u8
+    ensures { λ r. ⌜ r ≡ flagOf on ⌝ }
 {
-    if 7 < place {
-        return byte;
-    }
-    if on {
-        merged(1 << place, byte, 255)
-    } else {
-        merged(1 << place, byte, 0)
-    }
+    if on { 1 } else { 0 }
 }

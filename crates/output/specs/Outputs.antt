@@ -1,9 +1,8 @@
 -- What the chip shows: each register, INT, THERM, FAN_FAULT and the duties.
-use Prim.Native.Nat.{ℕ, zero, suc, _+_}
-use mathlib.Core.Bool.{Bool, true, false, cond, _&&_, _||_}
-use mathlib.Core.List.{List, [], _∷_}
+use Prim.Native.Nat.{ℕ, _+_}
+use mathlib.Core.Bool.{Bool, cond, _&&_, _||_}
 use lib.Dec.{eqb}
-use Rattle.num.specs.Bits.{bitOf}
+use Rattle.num.specs.Bits.{bitOf, flagOf}
 use Rattle.part.specs.declared.ChannelId.{ChannelId}
 use Rattle.part.specs.declared.ChannelId.the-variants.{Local, Remote1, Remote2}
 use Rattle.part.specs.declared.FanId.{FanId}
@@ -99,16 +98,13 @@ pendingOf k =
     || ((k .front .error1 && channelEnabled Remote1 (k .settings .config2)) || ((k .front .error2 && channelEnabled Remote2 (k .settings .config2))
     || k .front .pulled))))))
 
-abbrev pub flag : Bool → ℕ
-flag b = cond b 1 0
-
 -- INT, THERM and FAN_FAULT as 1 while asserted, else 0
 unfoldable pub shownOf : Chip → Shown
 shownOf k =
     record {
-      int = flag (bitOf (k .settings .config1) 1 && pendingOf k);
-      therm = flag (thermOf (k .channels));
-      fault = flag (bitOf (k .settings .config1) 4 && (eqb (k .fan1 .run) 5 || eqb (k .fan2 .run) 5));
+      int = flagOf (bitOf (k .settings .config1) 1 && pendingOf k);
+      therm = flagOf (thermOf (k .channels));
+      fault = flagOf (bitOf (k .settings .config1) 4 && (eqb (k .fan1 .run) 5 || eqb (k .fan2 .run) 5));
       duty1 = k .fan1 .drive .duty;
       duty2 = k .fan2 .drive .duty;
     }

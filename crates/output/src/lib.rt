@@ -13,7 +13,7 @@ use stored::Limits;
 use stored::Settings;
 ghost use mathlib.Core.Path.{_≡_};
 ghost use Prim.Native.Nat.{_≤_};
-ghost use Rattle.output.specs.Outputs.{limitsOf, fanBytesOf, channelIn, bitAt, packed, statusOf, valueOf, foundValue, valueAt, marked, pendingOf, flag, shownOf};
+ghost use Rattle.output.specs.Outputs.{limitsOf, fanBytesOf, channelIn, bitAt, packed, statusOf, valueOf, valueAt, marked, pendingOf, shownOf};
 
 fn limits_of(s: Settings, c: ChannelId) -> Limits
     ensures { λ r. ⌜ r ≡ limitsOf s c ⌝ }
@@ -154,20 +154,14 @@ fn pending(k: Chip) -> bool
     (k.fan1.alarm | k.fan1.fault) | ((k.fan2.alarm | k.fan2.fault) | channels)
 }
 
-fn flag_of(b: bool) -> u8
-    ensures { λ r. ⌜ r ≡ flag b ⌝ }
-{
-    if b { 1 } else { 0 }
-}
-
 pub fn shown(k: Chip) -> Shown
     ensures { λ r. ⌜ r ≡ shownOf k ⌝ }
 {
     let fault = num::bit(k.settings.config1, 4) & ((k.fan1.run == 5) | (k.fan2.run == 5));
     Shown {
-        int: flag_of(num::bit(k.settings.config1, 1) & pending(k)),
-        therm: flag_of(channel::therm(k.channels)),
-        fault: flag_of(fault),
+        int: num::flag(num::bit(k.settings.config1, 1) & pending(k)),
+        therm: num::flag(channel::therm(k.channels)),
+        fault: num::flag(fault),
         duty1: k.fan1.drive.duty,
         duty2: k.fan2.drive.duty,
     }

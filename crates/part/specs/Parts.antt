@@ -1,11 +1,8 @@
 -- Document 01, "Events and what each carries": channel 0 is local, 1 and 2 are remote; the fans are 1 and 2.
-use Prim.Native.Nat.{ℕ}
 use mathlib.Core.Bool.{cond}
 use lib.Dec.{eqb}
 use lib.IntN.{ℤ, pos, negsuc}
-use Rattle.part.specs.declared.ChannelId.{ChannelId}
 use Rattle.part.specs.declared.ChannelId.the-variants.{Local, Remote1, Remote2}
-use Rattle.part.specs.declared.FanId.{FanId}
 use Rattle.part.specs.declared.FanId.the-variants.{One, Two}
 use Rattle.part.specs.declared.MaybeChannel.{MaybeChannel}
 use Rattle.part.specs.declared.MaybeChannel.the-variants.{Channel, NoChannel}

@@ -1,5 +1,5 @@
 // The channels and fans of the chip, by name.
-// Each is decoded once from any number; above this crate nobody counts them.
+// Each is decoded once from any number; `act` gives each its number back.
 use num::Ranged;
 ghost use mathlib.Core.Path.{_≡_};
 ghost use Rattle.part.specs.Parts.{channelOf, fanOf};

@@ -1,11 +1,10 @@
 -- The same report by stepping a keeper, as the program works it out.
 use Prim.Native.Nat.{ℕ, zero, suc, _+_}
-use mathlib.Core.List.{List, [], _∷_, _++_}
-use mathlib.Core.Bool.{Bool, cond}
+use mathlib.Core.List.{List, [], _++_}
+use mathlib.Core.Bool.{cond}
 use lib.Dec.{leb}
 use lib.ListN.{length}
 use Rattle.event.specs.declared.Event.{Event}
-use Rattle.event.specs.declared.Outcome.{Outcome}
 use Rattle.trace.specs.Trace.{eventAt}
 use Rattle.trace.specs.declared.Reading.{Reading}
 use Rattle.trace.specs.declared.Reading.the-variants as reading
@@ -13,7 +12,6 @@ use Rattle.report.specs.Report.{entryText, malformedText}
 use Rattle.keeper.specs.Keeping.{answerOf, shownBy}
 use Rattle.keeper.specs.declared.Keeper.{Keeper}
 use Rattle.keeper.specs.declared.Keeper.the-variants.{Off}
-use Rattle.keeper.specs.declared.Answered.{Answered}
 use Rattle.player.specs.declared.Stepped.{Stepped}
 
 -- one event: the next keeper, the answer, and the outputs after it

@@ -1,7 +1,7 @@
 -- Document 01, "Trace text and report": the report of a text, by the rules over the history.
 use Prim.Native.Nat.{ℕ, zero, suc, _+_}
 use mathlib.Core.List.{List, [], _∷_, _++_}
-use mathlib.Core.Bool.{Bool, cond}
+use mathlib.Core.Bool.{cond}
 use lib.Dec.{ltb, leb}
 use lib.ListN.{length}
 use Rattle.event.specs.declared.Event.{Event}
@@ -10,7 +10,7 @@ use Rattle.event.specs.declared.Answer.the-variants.{WrongSize}
 use Rattle.trace.specs.Trace.{eventAt}
 use Rattle.trace.specs.declared.Reading.{Reading}
 use Rattle.trace.specs.declared.Reading.the-variants as reading
-use Rattle.report.specs.Report.{entryText, malformedText}
+use Rattle.report.specs.Report.{entryText, malformedText, tooLongText}
 use Rattle.buffer.specs.Put.{putOf, heldOf}
 use Rattle.buffer.specs.declared.Put.{Put}
 use Rattle.buffer.specs.declared.Put.the-variants.{Refused}
@@ -42,3 +42,7 @@ replayAnswer text buffer = cond (ltb 65536 (length text)) (Refused WrongSize) (p
 
 unfoldable pub replayBuffer : (text buffer : List ℕ) → List ℕ
 replayBuffer text buffer = cond (ltb 65536 (length text)) buffer (heldOf buffer 0 (reportOf text))
+
+-- what the program prints of a text: its report, or answer=11 alone
+unfoldable pub printedOf : (text : List ℕ) → List ℕ
+printedOf text = cond (ltb 65536 (length text)) tooLongText (reportOf text)

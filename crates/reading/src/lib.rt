@@ -3,9 +3,8 @@
 use part::ChannelId;
 ghost use mathlib.Core.Path.{_≡_};
 ghost use Prim.Native.Nat.{_+_, _*_};
-ghost use lib.Dec.{ltb};
 ghost use Rattle.reading.specs.Reading.{byteOf, remainderOf, readingOf, extendedOf, remainderIn};
-ghost use Rattle.reading.specs.Limits.{edgeOf, tminEdgeOf, heldOf, latchedOf, runningOf, overOf, underOf};
+ghost use Rattle.reading.specs.Limits.{edgeOf, heldOf, latchedOf, runningOf, overOf, underOf};
 
 // ---- readings and bytes
 

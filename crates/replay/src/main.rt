@@ -6,7 +6,8 @@ ghost use Prim.Native.Nat.{_≤_};
 ghost use lib.ListN.{length};
 ghost use lib.Seq.{sets};
 ghost use Rattle.io.specs.Counts.{Counts};
-ghost use Rattle.player.specs.Report.{reportOf};
+ghost use Rattle.report.specs.Report.{tooLongText};
+ghost use Rattle.player.specs.Report.{printedOf};
 
 // One byte more than a text may have.
 fn input_buffer() -> [u8; 65537]
@@ -22,28 +23,37 @@ fn report_buffer() -> [u8; 1114138]
     [0; 1114138]
 }
 
-// The report in the buffer, and its length: it always fits.
-fn played(text: &[u8], report: &mut [u8]) -> usize
-    requires { ⌜ (length (now text) ≤ 65536) × (1114138 ≤ length (now report)) ⌝ }
-    ensures { λ r. ⌜ r ≡ length (reportOf (now (text .entry))) ⌝ }
-    ensures { λ r. ⌜ Counts r (now (report .exit)) ⌝ }
-    ensures { λ _. ⌜ now (report .exit) ≡ sets (now (report .entry)) 0 (reportOf (now (text .entry))) ⌝ }
+// The ending of a text that is too long, and its length.
+fn too_long(report: &mut [u8]) -> usize
+    requires { ⌜ 1114138 ≤ length (now report) ⌝ }
+    ensures { λ r. ⌜ r ≡ length tooLongText ⌝ }
+    ensures { λ _. ⌜ now (report .exit) ≡ sets (now (report .entry)) 0 tooLongText ⌝ }
 {
-    let put = player::replay(text, report);
+    let put = report::put_too_long(report, 0);
     match put {
         Put::End(end) => end,
         Put::Refused(_) => 0,
     }
 }
 
+// What is to be printed, in the buffer, and its length: it always fits.
+fn printed(text: &[u8], report: &mut [u8]) -> usize
+    requires { ⌜ 1114138 ≤ length (now report) ⌝ }
+    ensures { λ r. ⌜ r ≡ length (printedOf (now (text .entry))) ⌝ }
+    ensures { λ r. ⌜ Counts r (now (report .exit)) ⌝ }
+    ensures { λ _. ⌜ now (report .exit) ≡ sets (now (report .entry)) 0 (printedOf (now (text .entry))) ⌝ }
+{
+    let put = player::replay(text, report);
+    match put {
+        Put::End(end) => end,
+        Put::Refused(_) => too_long(report),
+    }
+}
+
 fn main() {
     let mut input = input_buffer();
     let n = io::read_full(libc::STDIN_FILENO, &mut input);
-    if 65536 < n {
-        io::write_all(libc::STDOUT_FILENO, b"answer=11\n");
-        return;
-    }
-    let mut report = report_buffer();
-    let m = played(&input[..n], &mut report);
-    io::write_all(libc::STDOUT_FILENO, &report[..m]);
+    let mut output = report_buffer();
+    let m = printed(&input[..n], &mut output);
+    io::write_all(libc::STDOUT_FILENO, &output[..m]);
 }

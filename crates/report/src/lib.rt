@@ -9,7 +9,7 @@ ghost use Prim.Native.Nat.{_+_, _≤_};
 ghost use lib.ListN.{length};
 ghost use lib.Seq.{sets};
 ghost use Rattle.buffer.specs.Put.{putOf, heldOf};
-ghost use Rattle.report.specs.Report.{fieldText, answerText, replyText, pinText, dutyText, entryText, malformedText, tooLongText};
+ghost use Rattle.report.specs.Report.{fieldText, replyText, pinText, dutyText, entryText, malformedText, tooLongText};
 
 // A line at an index of a short text, and the index after it.
 fn field(name: &[u8], v: u32, text: &mut [u8], at: usize) -> usize

@@ -8,10 +8,9 @@ use lib.Dec.{ltb, leb, eqb}
 use lib.IntN.{ℤ, pos, negsuc}
 use mir.Syntax.{w8}
 use mir.Val.{Fits}
-use Rattle.num.specs.Range.{within, belowOf, eighthsOf}
+use Rattle.num.specs.Range.{within, belowOf, eighthsOf, natural}
 use Rattle.num.specs.declared.Ranged.{Ranged}
 use Rattle.num.specs.declared.Ranged.the-variants.{In, Out}
-use Rattle.request.specs.Request.{natural}
 use Rattle.request.specs.Replies.{odd}
 
 -- a test that was turned round

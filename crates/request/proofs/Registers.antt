@@ -7,13 +7,12 @@ use native.Mathlib.Omega.{arith}
 use borrow.Author.Tests.{ltb-true, ltb-false, eqb-true, le-leb, lt-leb}
 use lib.Dec.{ltb, leb, eqb}
 use lib.IntN.{ℤ, pos, negsuc}
-use Rattle.num.specs.Range.{within}
+use Rattle.num.specs.Range.{within, natural}
 use Rattle.register.specs.Table.{Row, says, table, registerAt, registerOf, existsAt, readOnlyAt}
 use Rattle.register.specs.declared.Register.{Register}
 use Rattle.register.specs.declared.Found.{Found}
 use Rattle.register.specs.declared.Found.the-variants.{At, Nowhere}
 use Rattle.register.proofs.Laws.{exists-yes, exists-no}
-use Rattle.request.specs.Request.{natural}
 use Rattle.request.specs.Replies.{isRegister, isReadOnly}
 
 -- what the table says of an address has that address

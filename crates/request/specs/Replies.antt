@@ -3,7 +3,7 @@ use Prim.Native.Nat.{ℕ, _%_}
 use mathlib.Core.Bool.{Bool, true, false, cond, not, _&&_, _||_}
 use lib.Dec.{leb, eqb}
 use lib.IntN.{ℤ, pos, negsuc}
-use Rattle.num.specs.Range.{is, within, eighthsOf}
+use Rattle.num.specs.Range.{is, within, eighthsOf, natural}
 use Rattle.num.specs.declared.Ranged.{Ranged}
 use Rattle.num.specs.declared.Ranged.the-variants.{In, Out}
 use Rattle.part.specs.Parts.{channelOf, fanOf}
@@ -20,7 +20,7 @@ use Rattle.event.specs.declared.Event.{Event}
 use Rattle.event.specs.declared.Event.the-variants as event
 use Rattle.event.specs.declared.Transfer.the-variants as transfer
 use Rattle.event.specs.declared.Kind.the-variants as kind
-use Rattle.request.specs.Request.{natural, asked}
+use Rattle.request.specs.Request.{asked}
 use Rattle.request.specs.declared.Verdict.{Verdict}
 use Rattle.request.specs.declared.Verdict.the-variants.{Accept, Refuse}
 
@@ -31,7 +31,7 @@ abbrev pub odd : ℤ → Bool
 odd (pos m) = eqb (m % 2) 1
 odd (negsuc m) = eqb (m % 2) 0
 
--- it is a sample, names a channel, a fan
+-- it lies in a sample's range; it names a channel, a fan
 abbrev pub isIn : Ranged → Bool
 isIn (In r) = true
 isIn Out = false
@@ -78,7 +78,7 @@ noRegister e = (isKind kind.Write e || isKind kind.Point e) && not (isRegister (
 abbrev pub readOnly : Event → Bool
 readOnly e = isKind kind.Write e && isReadOnly (numbersOf e .arg)
 
--- 6: a number out of its range, or an unused one not 0; who and arg of a transfer are judged by 2 and 4, a channel and a fan by 3
+-- 6: a number out of its range, or an unused one not 0; a transfer's address is judged by 2, its register by 4, a channel and a fan by 3
 abbrev pub inRange : Event → Bool
 inRange (event.Power n) = within 44 46 (n .who) && (within 0 1 (n .arg) && within 0 1 (n .val))
 inRange (event.Bus (transfer.Write n)) = within 0 255 (n .val)

@@ -1,11 +1,6 @@
 -- What an event asks, once its numbers are in order.
-use Prim.Native.Nat.{ℕ}
-use mathlib.Core.Bool.{Bool}
 use lib.Dec.{eqb}
-use lib.IntN.{ℤ, pos, negsuc}
-use Rattle.num.specs.Range.{eighthsOf}
-use Rattle.num.specs.declared.Ranged.{Ranged}
-use Rattle.num.specs.declared.Ranged.the-variants.{In, Out}
+use Rattle.num.specs.Range.{natural, held}
 use Rattle.part.specs.Parts.{channelOf, fanOf}
 use Rattle.part.specs.declared.ChannelId.{ChannelId}
 use Rattle.part.specs.declared.ChannelId.the-variants.{Local}
@@ -20,19 +15,6 @@ use Rattle.event.specs.declared.Event.the-variants as event
 use Rattle.event.specs.declared.Transfer.the-variants as transfer
 use Rattle.request.specs.declared.Request.{Request}
 use Rattle.request.specs.declared.Request.the-variants as ask
-
--- a number from 0 up; a negative one, which no request has, counts as 0
-abbrev pub natural : ℤ → ℕ
-natural (pos n) = n
-natural (negsuc n) = 0
-
--- a sample's eighths, with 1024 added
-abbrev pub inside : Ranged → ℕ
-inside (In r) = r
-inside Out = 0
-
-abbrev pub held : ℤ → ℕ
-held t = inside (eighthsOf t)
 
 -- the channel and the fan of a number that names one
 abbrev pub someChannel : MaybeChannel → ChannelId

@@ -1,5 +1,5 @@
 -- The bytes that the chip stores, by the addresses of the register table.
-use Prim.Native.Nat.{ℕ, _+_}
+use Prim.Native.Nat.{ℕ}
 use mathlib.Core.Bool.{Bool, cond, not, _&&_, _||_}
 use lib.Dec.{eqb}
 use Rattle.num.specs.Bits.{bitOf, mergedOf}
@@ -61,7 +61,7 @@ statusAt Two = 0x03
 abbrev pub counts : (address : ℕ) → Act → Bool
 counts address r = (eqb address (speedAt One) && measures One r) || (eqb address (speedAt Two) && measures Two r)
 
--- the byte stored at an address: its reset byte; what is written, where the mask lets it; a fan's count
+-- the byte stored at an address: its reset byte; what is written, read-only bits keeping theirs (below the reply table); a fan's count (tach counts)
 unfoldable pub storedAfter : (address : ℕ) → Act → ℕ → ℕ
 storedAfter address r was =
     cond (fresh r) (resetAt address)

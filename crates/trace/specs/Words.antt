@@ -1,6 +1,6 @@
 -- The words of the trace text (document 01, "Trace text and report"), as bytes: one table for reader and writer.
 use Prim.Native.Nat.{ℕ, _+_}
-use mathlib.Core.List.{List, [], _∷_, _++_}
+use mathlib.Core.List.{List, [], _∷_}
 use mathlib.Core.Bool.{cond}
 use lib.Dec.{ltb}
 use lib.ListN.{length}

@@ -12,21 +12,21 @@ bit-requires-2 c κs = search needs
 pending-requires : tie.Need-pending-requires
 pending-requires c κs = search needs
 
-flag-of-requires : tie.Need-flag-of-requires
-flag-of-requires c κs = search needs
+flag-requires : tie.Need-flag-requires
+flag-requires c κs = search needs
 
 therm-requires : tie.Need-therm-requires
 therm-requires c κs = search needs
 
-flag-of-requires-2 : tie.Need-flag-of-requires-2
-flag-of-requires-2 c κs = search needs
+flag-requires-2 : tie.Need-flag-requires-2
+flag-requires-2 c κs = search needs
 
-flag-of-requires-3 : tie.Need-flag-of-requires-3
-flag-of-requires-3 c κs = search needs
+flag-requires-3 : tie.Need-flag-requires-3
+flag-requires-3 c κs = search needs
 
 returns : tie.Need-returns
 unfolding shownOf
-returns c = rw (c .flag-of3 .ensures, c .before .flag-of2 .ensures, c .before .before .therm .ensures, c .before .before .before .flag-of .ensures, c .before .before .before .before .pending .ensures, c .before .before .before .before .before .bit2 .ensures, c .before .before .before .before .before .before .before .before .bit .ensures)
+returns c = rw (c .flag3 .ensures, c .before .flag2 .ensures, c .before .before .therm .ensures, c .before .before .before .flag .ensures, c .before .before .before .before .pending .ensures, c .before .before .before .before .before .bit2 .ensures, c .before .before .before .before .before .before .before .before .bit .ensures)
 
 pub shown-spec : {M : Type 1} → statement M
 shown-spec =
@@ -35,8 +35,8 @@ shown-spec =
     bit-requires
     bit-requires-2
     pending-requires
-    flag-of-requires
+    flag-requires
     therm-requires
-    flag-of-requires-2
-    flag-of-requires-3
+    flag-requires-2
+    flag-requires-3
     returns)
