@@ -32,8 +32,8 @@ use Rattle.history.specs.Duties.{Spin, duty, failures, atAlarm, alarmBit
 use Rattle.history.specs.Shows as shows
 use Rattle.history.specs.Agreement.{run, Agreement}
 use Rattle.history.specs.Demand3.{shownDuty, Demand3}
-use Rattle.history.proofs.HistoryLaws.{by-cases, refused-settings, refused-channels, refused-setting, refused-spin}
-use Rattle.history.proofs.PowerLaws.{same-kind, off-reply, up-is, off-accepted, on-after, refused-powered, refused-address, off-stored, off-latch, off-spin, starts-afresh}
+use Rattle.history.proofs.HistoryLaws.{kind-is, by-cases, refused-settings, refused-channels, refused-setting, refused-spin}
+use Rattle.history.proofs.PowerLaws.{off-reply, up-is, off-accepted, on-after, refused-powered, refused-address, off-stored, off-latch, off-spin, starts-afresh}
 use Rattle.history.proofs.StateLaws.{frontOf, fanOf, chipOf, chip-is}
 use Rattle.history.proofs.ValueLaws.{value-is, shown-on}
 use Rattle.history.proofs.Demand3Laws as laws
@@ -96,11 +96,11 @@ module _ (e : Event) (h : History) where
 
   done-is : accepted e h ≡ true → powered h ≡ true → Done (dataFor (chipOf h) (act e)) ≡ shows.answer e h
   unfolding shows.answer chipOf frontOf
-  done-is go on = rw (go, same-kind kind.Read e) (ap (λ (v : ℕ). Done (cond (isKind kind.Read e) v 0)) (value-is h on (pointer h)))
+  done-is go on = rw (go, kind-is kind.Read e) (ap (λ (v : ℕ). Done (cond (isKind kind.Read e) v 0)) (value-is h on (pointer h)))
 
   up-answer : accepted e h ≡ true → powered h ≡ false → Done (dataFor blank (act e)) ≡ shows.answer e h
   unfolding shows.answer
-  up-answer go off = rw (go, same-kind kind.Read e, not-read e (accepted e h) (up-is e h) (sym (off-accepted e h off) ∙ go))
+  up-answer go off = rw (go, kind-is kind.Read e, not-read e (accepted e h) (up-is e h) (sym (off-accepted e h off) ∙ go))
 
   refused-answer : accepted e h ≡ false → reply e h ≡ shows.answer e h
   unfolding shows.answer

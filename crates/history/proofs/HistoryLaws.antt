@@ -5,7 +5,13 @@ use mathlib.Core.Bool.{Bool, true, false}
 use mathlib.Core.List.{_∷_}
 use Rattle.part.specs.declared.ChannelId.{ChannelId}
 use Rattle.part.specs.declared.FanId.{FanId}
+use Rattle.event.specs.Kinds.{isKind}
 use Rattle.event.specs.declared.Event.{Event}
+use Rattle.event.specs.declared.Event.the-variants as event
+use Rattle.event.specs.declared.Transfer.the-variants as transfer
+use Rattle.event.specs.declared.Kind.{Kind}
+use Rattle.request.specs.Request.{asked}
+use Rattle.act.specs.Acts.{isA, actOf}
 use Rattle.stored.specs.Stored.{storedAfter, limitsAfter, fanBytesAfter, settingsAfter}
 use Rattle.history.specs.Events.{History, act, stored, reply, accepted, pinLow, limits, fanBytes, settings}
 use Rattle.history.specs.Temperatures.{reading, latch, flag, highBit, lowBit, thermBit, channel, channels}
@@ -14,6 +20,19 @@ use Rattle.history.specs.Duties.{setting, spin, spinAfter, beatWith, pri
 pub by-cases {ℓ} : {P : Type ℓ} (b : Bool) → (b ≡ true → P) → (b ≡ false → P) → P
 by-cases true t f = t refl
 by-cases false t f = f refl
+
+-- the kind of an act is that of its event
+pub kind-is : (k : Kind) (e : Event) → isA k (act e) ≡ isKind k e
+unfolding asked actOf
+kind-is k (event.Power n) = refl
+kind-is k (event.Bus (transfer.Write n)) = refl
+kind-is k (event.Bus (transfer.Point n)) = refl
+kind-is k (event.Bus (transfer.Read n)) = refl
+kind-is k (event.Sample n) = refl
+kind-is k (event.Tach n) = refl
+kind-is k (event.Pin n) = refl
+kind-is k (event.Clock n) = refl
+kind-is k (event.Period n) = refl
 
 -- ---- a refused event
 

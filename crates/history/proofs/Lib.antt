@@ -7,4 +7,5 @@ pub mod Demand3Laws
 pub mod StateLaws
 pub mod ValueLaws
 pub mod ReadbackLaws
+pub mod BoundsLaws
 pub mod Agree

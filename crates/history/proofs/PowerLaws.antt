@@ -11,12 +11,11 @@ use Rattle.event.specs.declared.Numbers.{Numbers}
 use Rattle.event.specs.declared.Event.{Event}
 use Rattle.event.specs.declared.Event.the-variants as event
 use Rattle.event.specs.declared.Transfer.the-variants as transfer
-use Rattle.event.specs.declared.Kind.{Kind}
 use Rattle.event.specs.declared.Kind.the-variants as kind
 use Rattle.num.specs.Range.{natural}
 use Rattle.request.specs.Request.{asked}
 use Rattle.request.specs.Replies.{replyOf, accepts}
-use Rattle.act.specs.Acts.{actOf, isA}
+use Rattle.act.specs.Acts.{actOf}
 use Rattle.stored.specs.Stored.{storedAfter, limitsAfter, fanBytesAfter, settingsAfter}
 use Rattle.channel.specs.Channels.{readingAfter, latchAfter, flagAfter, overAfter, underAfter, hotAfter, channelAfter, channelsAfter}
 use Rattle.fan.specs.Fans.{fanAfter, fanIn}
@@ -25,20 +24,7 @@ use Rattle.chip.specs.declared.Chip.{Chip}
 use Rattle.history.specs.Events.{History, act, powersUp, powered, address, stored, reply, accepted}
 use Rattle.history.specs.Temperatures.{latch}
 use Rattle.history.specs.Duties.{spin, still}
-use Rattle.history.proofs.HistoryLaws.{by-cases, refused-stored, refused-spin}
-
--- the kind of an act is that of its event
-pub same-kind : (k : Kind) (e : Event) → isA k (act e) ≡ isKind k e
-unfolding asked actOf
-same-kind k (event.Power n) = refl
-same-kind k (event.Bus (transfer.Write n)) = refl
-same-kind k (event.Bus (transfer.Point n)) = refl
-same-kind k (event.Bus (transfer.Read n)) = refl
-same-kind k (event.Sample n) = refl
-same-kind k (event.Tach n) = refl
-same-kind k (event.Pin n) = refl
-same-kind k (event.Clock n) = refl
-same-kind k (event.Period n) = refl
+use Rattle.history.proofs.HistoryLaws.{by-cases, kind-is, refused-stored, refused-spin}
 
 -- without power the reply asks nothing of the keeper
 pub off-reply : (a b : ℕ) (m n : Bool) (e : Event) → replyOf false a m e ≡ replyOf false b n e
@@ -122,7 +108,7 @@ who-is (event.Period n) was = refl
 
 pub accepted-address : (e : Event) (h : History) → accepted e h ≡ true → addressAfter (act e) (address h) ≡ address (e ∷ h)
 unfolding address
-accepted-address e h go = rw (same-kind kind.Power e, up-is e h, go, and-true) (who-is e (address h))
+accepted-address e h go = rw (kind-is kind.Power e, up-is e h, go, and-true) (who-is e (address h))
 
 -- ---- before the first power-on nothing was accepted
 

@@ -58,12 +58,12 @@ act-small (event.Pin n) = omega arith
 act-small (event.Clock n) = omega arith
 act-small (event.Period n) = omega arith
 
--- an accepted event passed the tests of 3 and 8
+-- an accepted event passed the tests of 3, 6 and 8
 past : (b : Bool) (x r : Answer) → accepts x ≡ false → accepts (cond b x r) ≡ true → (b ≡ false) × (accepts r ≡ true)
 past true x r n y = absurd (true≢false (sym y ∙ n))
 past false x r n y = (refl, y)
 
-passed : (on : Bool) (a : ℕ) (m : Bool) (e : Event) → accepts (replyOf on a m e) ≡ true → (noPart e ≡ false) × (oddLocal e ≡ false)
+pub passed : (on : Bool) (a : ℕ) (m : Bool) (e : Event) → accepts (replyOf on a m e) ≡ true → (noPart e ≡ false) × (not (inRange e) ≡ false) × (oddLocal e ≡ false)
 unfolding replyOf
 passed on a m e y =
     let p1 = past (noPower on e) NoPower _ refl y in
@@ -74,7 +74,7 @@ passed on a m e y =
     let p6 = past (not (inRange e)) OutOfRange _ refl (p5 .1) in
     let p7 = past (badCode e) BadRangeCode _ refl (p6 .1) in
     let p8 = past (oddLocal e) OddLocal _ refl (p7 .1) in
-    (p3 .0, p8 .0)
+    (p3 .0, p6 .0, p8 .0)
 
 -- a sample that names a channel, and is the local one's, is even
 local-even : (n : Numbers) → noPart (event.Sample n) ≡ false → oddLocal (event.Sample n) ≡ false → samples Local (act (event.Sample n)) ≡ true → held (n .val) % 2 ≡ 0
@@ -94,7 +94,7 @@ local-even n p q s = go (n .who) refl
 
 quarter : (e : Event) (h : History) → accepted e h ≡ true → samples Local (act e) ≡ true → act e .reading % 2 ≡ 0
 unfolding asked actOf accepted reply
-quarter (event.Sample n) h y s = let p = passed (powered h) (address h) (bitOf (stored 0x00 h) 0) (event.Sample n) y in local-even n (p .0) (p .1) s
+quarter (event.Sample n) h y s = let p = passed (powered h) (address h) (bitOf (stored 0x00 h) 0) (event.Sample n) y in local-even n (p .0) (p .2) s
 quarter (event.Power n) h y s = refl
 quarter (event.Bus (transfer.Write n)) h y s = refl
 quarter (event.Bus (transfer.Point n)) h y s = refl

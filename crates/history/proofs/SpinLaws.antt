@@ -8,37 +8,19 @@ use lib.Dec.{eqb}
 use borrow.Author.Tests.{eqb-true}
 use Rattle.part.specs.declared.FanId.{FanId}
 use Rattle.part.specs.declared.FanId.the-variants.{One, Two}
-use Rattle.event.specs.Kinds.{isKind}
 use Rattle.event.specs.declared.Event.{Event}
-use Rattle.event.specs.declared.Event.the-variants as event
-use Rattle.event.specs.declared.Transfer.the-variants as transfer
-use Rattle.event.specs.declared.Kind.{Kind}
 use Rattle.request.specs.Request.{asked}
-use Rattle.act.specs.Acts.{isA, actOf}
 use Rattle.drive.specs.declared.Setting.{Setting}
 use Rattle.drive.specs.declared.Beat.{Beat}
 use Rattle.drive.specs.declared.Drive.{Drive}
 use Rattle.drive.specs.Drive.{startsOf, leftOf, keptOf, drivenOf}
 use Rattle.drive.proofs.DriveLaws.{spin-up-pos, wanted, full, duty-zero, zero-duty, plain}
 use Rattle.fan.specs.Fans.{settingOf}
-use Rattle.history.specs.Events.{History, act, stored, accepted, settings}
+use Rattle.history.specs.Events.{History, stored, accepted, settings}
 use Rattle.history.specs.Temperatures.{thermAsserted, channel, channels}
 use Rattle.history.specs.Duties.{setting, Spin, left, spinAt, givenAfter, sinceAfter, spinAfter, priorSpin, beatWith, spin}
 use Rattle.history.specs.Demand3.{overridden}
 use Rattle.history.proofs.HistoryLaws.{by-cases, refused-setting, refused-spin, accepted-spin}
-
--- an event's kind is that of its numbers
-pub kind-is : (k : Kind) (e : Event) → isA k (act e) ≡ isKind k e
-unfolding asked actOf
-kind-is k (event.Power n) = refl
-kind-is k (event.Bus (transfer.Write n)) = refl
-kind-is k (event.Bus (transfer.Point n)) = refl
-kind-is k (event.Bus (transfer.Read n)) = refl
-kind-is k (event.Sample n) = refl
-kind-is k (event.Tach n) = refl
-kind-is k (event.Pin n) = refl
-kind-is k (event.Clock n) = refl
-kind-is k (event.Period n) = refl
 
 -- the setting's override is that of the demand
 pub override-is : (f : FanId) (h : History) → setting f h .overridden ≡ overridden h

@@ -22,8 +22,8 @@ use Rattle.fan.specs.Fans.{settingOf}
 use Rattle.history.specs.Events.{History, act, stored, accepted, settings}
 use Rattle.history.specs.Duties.{setting, Spin, left, priorSpin, beatWith, failsWith, spin, duty, spinLeft, failed, periodsIn, clocksIn}
 use Rattle.history.specs.Demand3.{filtered, rate, overridden, Settled, disturbs, Stretch}
-use Rattle.history.proofs.HistoryLaws.{by-cases, refused-stored, refused-spin, accepted-stored}
-use Rattle.history.proofs.SpinLaws.{kind-is, override-is, driveOf, sound, spun, spin-step}
+use Rattle.history.proofs.HistoryLaws.{kind-is, by-cases, refused-stored, refused-spin, accepted-stored}
+use Rattle.history.proofs.SpinLaws.{override-is, driveOf, sound, spun, spin-step}
 
 or-left : (a b : Bool) → (a || b) ≡ false → a ≡ false
 or-left true b e = e

@@ -22,15 +22,15 @@ use Rattle.history.specs.Events.{History, act, powersUp, powered, stored
 use Rattle.history.specs.Temperatures.{channel, channels, thermAsserted}
 use Rattle.history.specs.Duties.{duty, failures}
 use Rattle.history.specs.Shows as shows
-use Rattle.history.proofs.HistoryLaws.{by-cases, refused-stored, accepted-stored}
-use Rattle.history.proofs.PowerLaws.{same-kind, off-accepted, refused-powered}
+use Rattle.history.proofs.HistoryLaws.{kind-is, by-cases, refused-stored, accepted-stored}
+use Rattle.history.proofs.PowerLaws.{off-accepted, refused-powered}
 use Rattle.history.proofs.StateLaws.{frontOf, fanOf, chipOf}
 
 -- ---- the two registers that no write changes
 
 -- a power-on starts afresh
 up-fresh : (e : Event) → powersUp e ≡ true → fresh (act e) ≡ true
-up-fresh e up = rw (same-kind kind.Power e, both (isKind kind.Power e) (accepts (replyOf false 0 false e)) up)
+up-fresh e up = rw (kind-is kind.Power e, both (isKind kind.Power e) (accepts (replyOf false 0 false e)) up)
   where
     both : (a b : Bool) → (a && b) ≡ true → a ≡ true
     both true b q = refl

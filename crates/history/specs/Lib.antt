@@ -6,3 +6,4 @@ pub mod Agreement
 pub mod Demand1
 pub mod Demand3
 pub mod Readback
+pub mod Bounds

@@ -26,6 +26,7 @@ use Rattle.keeper.specs.declared.Answered.{Answered}
 use Rattle.history.specs.Events.{History}
 use Rattle.history.specs.Agreement.{run}
 use Rattle.history.proofs.Agree.{agreement}
+use Rattle.player.proofs.SizeLaws.{bounded}
 use Rattle.player.specs.Report.{outcome, lines, reportFrom, reportOf, replayAnswer, replayBuffer}
 use Rattle.player.specs.Played.{steppedOf, linesBy, playedFrom, playedOf}
 
@@ -91,29 +92,31 @@ module _ (text d : List ℕ) where
   unfolding replayBuffer
   too-long-held h = rw (lt-ltb 65536 (length text) h)
 
-  module _ {n : ℕ} (h : length text ≤ 65536) (e : n ≡ length (playedOf text)) where
-    size : 0 + length (reportOf text) ≡ n
-    size = zero-add (length (reportOf text)) ∙ ap length (sym (report-is text)) ∙ sym e
+  module _ (h : length text ≤ 65536) where
+    size : 0 + length (reportOf text) ≡ length (playedOf text)
+    size = zero-add (length (reportOf text)) ∙ ap length (sym (report-is text))
 
-    pub too-short : length d < n → Refused WrongSize ≡ replayAnswer text d
-    unfolding replayAnswer putOf
-    too-short l = rw (le-ltb 65536 (length text) h, size, lt-leb n (length d) l)
+    module _ {n : ℕ} (e : n ≡ length (playedOf text)) (l : length d < n) where
+      pub too-short : Refused WrongSize ≡ replayAnswer text d
+      unfolding replayAnswer putOf
+      too-short = rw (le-ltb 65536 (length text) h, size, ← e, lt-leb n (length d) l)
 
-    pub too-short-held : length d < n → d ≡ replayBuffer text d
-    unfolding replayBuffer heldOf
-    too-short-held l = rw (le-ltb 65536 (length text) h, size, lt-leb n (length d) l)
+      pub too-short-held : d ≡ replayBuffer text d
+      unfolding replayBuffer heldOf
+      too-short-held = rw (le-ltb 65536 (length text) h, size, ← e, lt-leb n (length d) l)
 
-    pub answered : {o : ℕ} → n ≤ length d → o ≡ length (playedOf text) → End o ≡ replayAnswer text d
-    unfolding replayAnswer putOf
-    answered l eo = rw (le-ltb 65536 (length text) h, size, le-leb n (length d) l, eo, ← e)
+    -- the report has room: it was measured, or the buffer has room for the longest
+    pub measured-room : {n : ℕ} → n ≡ length (playedOf text) → n ≤ length d → length (playedOf text) ≤ length d
+    measured-room e l = rw (← e) l
 
-    pub answered-held : {d′ : List ℕ} → n ≤ length d → d′ ≡ sets d 0 (playedOf text) → d′ ≡ replayBuffer text d
-    unfolding replayBuffer heldOf
-    answered-held l ed = rw (le-ltb 65536 (length text) h, size, le-leb n (length d) l) (ed ∙ ap (sets d 0) (report-is text))
+    pub sure-room : 17 * length text + 26 ≤ length d → length (playedOf text) ≤ length d
+    sure-room l = omega (arith, bounded text h, ap length (report-is text))
 
--- no report is longer than its text allows
-pub never-long : (text : List ℕ) → 65536 < length text → length text ≤ 65536 → length (reportOf text) ≤ 17 * length text + 26
-never-long text h h′ = absurd (omega arith)
+    module _ (room : length (playedOf text) ≤ length d) where
+      pub answered : {o : ℕ} → o ≡ length (playedOf text) → End o ≡ replayAnswer text d
+      unfolding replayAnswer putOf
+      answered e = rw (le-ltb 65536 (length text) h, size, le-leb (length (playedOf text)) (length d) room, e)
 
-pub bounded : (text : List ℕ) {n : ℕ} → n ≡ length (playedOf text) → n ≤ 17 * length text + 26 → length text ≤ 65536 → length (reportOf text) ≤ 17 * length text + 26
-bounded text e l h = omega (arith, ap length (report-is text))
+      pub answered-held : {d′ : List ℕ} → d′ ≡ sets d 0 (playedOf text) → d′ ≡ replayBuffer text d
+      unfolding replayBuffer heldOf
+      answered-held e = rw (le-ltb 65536 (length text) h, size, le-leb (length (playedOf text)) (length d) room) (e ∙ ap (sets d 0) (report-is text))

@@ -1,3 +1,4 @@
 pub mod PlayedLaws
 pub mod GrowLaws
+pub mod SizeLaws
 pub mod AnswerLaws

@@ -1,5 +1,5 @@
 -- Document 01, "Trace text and report": the report of a text, by the rules over the history.
-use Prim.Native.Nat.{ℕ, zero, suc, _+_}
+use Prim.Native.Nat.{ℕ, zero, suc, _+_, _*_, _≤_}
 use mathlib.Core.List.{List, [], _∷_, _++_}
 use mathlib.Core.Bool.{cond}
 use lib.Dec.{ltb, leb}
@@ -35,6 +35,10 @@ reportFrom (suc k) text at line h =
 -- the whole report; empty text gives an empty report
 unfoldable pub reportOf : List ℕ → List ℕ
 reportOf text = reportFrom (length text) text 0 1 []
+
+-- no report is longer than 17 bytes for each byte of text, and an ending of 26
+abbrev pub Bounded : Type 0
+Bounded = (text : List ℕ) → length text ≤ 65536 → length (reportOf text) ≤ 17 * length text + 26
 
 -- a text of more than 65,536 bytes is refused with 11 before any line is judged; then a buffer too short for the report
 unfoldable pub replayAnswer : (text buffer : List ℕ) → Put

@@ -1,5 +1,5 @@
 // The replay: trace text in, report out, by stepping a keeper that never had power.
-// The report is measured first, so that a buffer too short for it stays as it was.
+// A buffer too short for the report stays as it was.
 use buffer::Put;
 use event::Answer;
 use event::Event;
@@ -11,7 +11,7 @@ ghost use Prim.Native.Nat.{_+_, _*_, _≤_};
 ghost use lib.ListN.{length};
 ghost use lib.Seq.{sets};
 ghost use Rattle.report.specs.Report.{entryText, malformedText};
-ghost use Rattle.player.specs.Report.{reportOf, replayAnswer, replayBuffer};
+ghost use Rattle.player.specs.Report.{replayAnswer, replayBuffer};
 ghost use Rattle.player.specs.Played.{steppedOf, playedOf};
 
 // The next keeper, and what is reported of an event.
@@ -117,17 +117,18 @@ fn write_report(text: &[u8], report: &mut [u8]) -> usize
 }
 
 // The report of a trace into a lent buffer: where it ends; or 11, and the buffer as it was.
-// No report is longer than 17 bytes for each byte of text, and an ending of 26.
+// Only where the buffer might be too short is the report measured before it is written.
 pub fn replay(text: &[u8], report: &mut [u8]) -> Put
     ensures { λ r. ⌜ r ≡ replayAnswer (now (text .entry)) (now (report .entry)) ⌝ }
     ensures { λ _. ⌜ now (report .exit) ≡ replayBuffer (now (text .entry)) (now (report .entry)) ⌝ }
-    ensures { λ _. ⌜ (length (now (text .entry)) ≤ 65536 → length (reportOf (now (text .entry))) ≤ 17 * length (now (text .entry)) + 26) ⌝ }
 {
     if 65536 < text.len() {
         return Put::Refused(Answer::WrongSize);
     }
-    let n = report_len(text);
-    if report.len() < n {
+    if 17 * text.len() + 26 <= report.len() {
+        return Put::End(write_report(text, report));
+    }
+    if report.len() < report_len(text) {
         return Put::Refused(Answer::WrongSize);
     }
     Put::End(write_report(text, report))

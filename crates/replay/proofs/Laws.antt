@@ -1,5 +1,5 @@
 -- What the program prints has room, whatever the text. Assumes nothing.
-use Prim.Native.Nat.{ℕ, _+_, _*_, _≤_}
+use Prim.Native.Nat.{ℕ, _+_, _≤_}
 use mathlib.Core.Path.{_≡_, refl, sym, ap, _∙_}
 use mathlib.Core.Bool.{Bool, true, false}
 use mathlib.Core.List.{List}
@@ -15,6 +15,7 @@ use Rattle.buffer.specs.Put.{putOf, heldOf}
 use Rattle.buffer.specs.declared.Put.{Put}
 use Rattle.buffer.specs.declared.Put.the-variants.{End, Refused}
 use Rattle.report.specs.Report.{answerText, tooLongText}
+use Rattle.player.proofs.SizeLaws.{bounded}
 use Rattle.player.specs.Report.{reportOf, replayAnswer, replayBuffer, printedOf}
 
 clash : {a : Answer} {e : ℕ} → Refused a ≡ End e → ⊥
@@ -58,10 +59,10 @@ module _ (d : List ℕ) (room : 1114138 ≤ length d) where
 
 -- ---- either
 
-module _ (text d : List ℕ) (room : 1114138 ≤ length d) (bound : length text ≤ 65536 → length (reportOf text) ≤ 17 * length text + 26) where
+module _ (text d : List ℕ) (room : 1114138 ≤ length d) where
   module _ (short : ltb 65536 (length text) ≡ false) where
     fits : 0 + length (reportOf text) ≤ length d
-    fits = let h = ltb-false 65536 (length text) short in omega (arith, bound h)
+    fits = let h = ltb-false 65536 (length text) short in omega (arith, bounded text h)
 
     printed-short : printedOf text ≡ reportOf text
     unfolding printedOf
