@@ -26,13 +26,14 @@ use Rattle.keeper.specs.Keeping.{blank, dataFor, decided, answerOf, shownBy, va
 use Rattle.keeper.specs.declared.Keeper.{Keeper}
 use Rattle.keeper.specs.declared.Keeper.the-variants.{Off, On}
 use Rattle.keeper.specs.declared.Answered.{Answered}
+use Rattle.drive.proofs.RampLaws.{by-cases}
 use Rattle.history.specs.Events.{History, act, powersUp, powered, address, stored, reply, accepted, pointer, pinLow, diodeError1, diodeError2, pulled, settings}
 use Rattle.history.specs.Temperatures.{thermAsserted}
 use Rattle.history.specs.Duties.{Spin, duty, failures, atAlarm, alarmBit, faultBit}
 use Rattle.history.specs.Shows as shows
 use Rattle.history.specs.Agreement.{run, Agreement}
 use Rattle.history.specs.Demand3.{shownDuty, Demand3}
-use Rattle.history.proofs.HistoryLaws.{kind-is, by-cases, refused-settings, refused-channels, refused-setting, refused-spin}
+use Rattle.history.proofs.HistoryLaws.{kind-is, refused-settings, refused-channels, refused-setting, refused-spin}
 use Rattle.history.proofs.PowerLaws.{off-reply, up-is, off-accepted, on-after, refused-powered, refused-address, off-stored, off-latch, off-spin, starts-afresh}
 use Rattle.history.proofs.StateLaws.{frontOf, fanOf, chipOf, chip-is}
 use Rattle.history.proofs.ValueLaws.{value-is, shown-on}

@@ -1,6 +1,6 @@
 -- Every stored byte, register value and duty is in its bounds. Assumes nothing.
 use Prim.Native.Nat.{ℕ, _-_, _*_, _≤_, _<_}
-use mathlib.Core.Path.{_≡_, refl, sym}
+use mathlib.Core.Path.{_≡_, sym}
 use mathlib.Core.Bool.{Bool, true, false, cond, not, _&&_, true≢false, and-false}
 use mathlib.Core.List.{[], _∷_}
 use native.Mathlib.Omega.{arith}
@@ -20,7 +20,7 @@ use Rattle.event.specs.declared.Event.{Event}
 use Rattle.event.specs.declared.Event.the-variants as event
 use Rattle.event.specs.declared.Transfer.the-variants as transfer
 use Rattle.register.specs.Table.{maskAt, registerAt}
-use Rattle.register.proofs.Laws.{mask-small, reset-small}
+use Rattle.register.proofs.Laws.{both, mask-small, reset-small}
 use Rattle.register.specs.declared.Register.{Register}
 use Rattle.register.specs.declared.Register.the-variants as register
 use Rattle.register.specs.declared.Found.{Found}
@@ -35,11 +35,12 @@ use Rattle.act.specs.Acts.{actOf, fresh, writes}
 use Rattle.stored.specs.Stored.{counts, storedAfter}
 use Rattle.fan.specs.Fans.{fanTarget, settingOf}
 use Rattle.output.specs.Outputs.{bitAt, packed}
+use Rattle.drive.proofs.RampLaws.{by-cases}
 use Rattle.history.specs.Events.{History, act, powered, address, stored, reply, accepted}
 use Rattle.history.specs.Duties.{setting, Spin, givenAfter, sinceAfter, spinAfter, beatWith, priorSpin, spin, duty}
 use Rattle.history.specs.Shows.{status, valueOf, value, foundValue}
 use Rattle.history.specs.Bounds.{Bounds}
-use Rattle.history.proofs.HistoryLaws.{by-cases, refused-stored, accepted-stored}
+use Rattle.history.proofs.HistoryLaws.{refused-stored, accepted-stored}
 use Rattle.history.proofs.ReadbackLaws.{passed}
 
 pub either : (P : ℕ → Type 0) (b : Bool) {x y : ℕ} → P x → P y → P (cond b x y)
@@ -53,11 +54,6 @@ unfolding mergedOf
 merged-byte mask was new h = or-lt 8 (bitAnd was (255 - mask)) (bitAnd new mask) (omega (arith, and-le-r was (255 - mask))) (omega (arith, and-le-r new mask))
 
 -- an accepted count is a byte
-both : (a b : Bool) → (a && b) ≡ true → (a ≡ true) × (b ≡ true)
-both true true e = (refl, refl)
-both true false e = absurd (true≢false (sym e))
-both false b e = absurd (true≢false (sym e))
-
 held-in : (v : ℤ) → within 0 255 v ≡ true → natural v < 256
 unfolding within
 held-in (pos m) e = omega (arith, leb-true m 255 (both (leb 0 m) (leb m 255) e .1))

@@ -15,8 +15,8 @@ use Rattle.request.specs.Replies.{noPower, otherAddress, noPart, noRegister, re
 use Rattle.keeper.specs.Keeping.{answerOf}
 use Rattle.keeper.specs.declared.Keeper.{Keeper}
 use Rattle.keeper.specs.declared.Keeper.the-variants.{Off, On}
+use Rattle.drive.proofs.RampLaws.{by-cases}
 use Rattle.history.specs.Demand1.{isOn, ownAddress, isMonitoring, Applies, one, two, three, four, five, six, seven, eight, nine, number, Demand1}
-use Rattle.history.proofs.HistoryLaws.{by-cases}
 
 -- ---- the reply
 

@@ -9,12 +9,11 @@ use borrow.Author.Tests.{eqb-true, eqb-false}
 use Rattle.part.specs.declared.FanId.{FanId}
 use Rattle.event.specs.declared.Event.{Event}
 use Rattle.drive.specs.Ramp.{outside, nearerOf}
-use Rattle.drive.proofs.RampLaws.{still-distance, nearer-below, nearer-above}
+use Rattle.drive.proofs.RampLaws.{still-distance, nearer-below, nearer-above, by-cases}
 use Rattle.drive.proofs.DriveLaws.{wanted}
 use Rattle.history.specs.Events.{History}
 use Rattle.history.specs.Duties.{setting, spin, duty, spinLeft, periodsIn}
 use Rattle.history.specs.Demand3.{shownDuty, enabled, filtered, target, rate, overridden, Settled, Stretch, Steady, Demand3}
-use Rattle.history.proofs.HistoryLaws.{by-cases}
 use Rattle.history.proofs.SpinLaws.{override-is, sound}
 use Rattle.history.proofs.StretchLaws.{settled-at-end, split, filter-kept, spin-falls, duty-nears}
 

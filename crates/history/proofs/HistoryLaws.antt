@@ -1,7 +1,7 @@
 -- What an event changes of what the rules say: nothing where it is refused, else by the rule of each quantity. Assumes nothing.
 use Prim.Native.Nat.{ℕ}
 use mathlib.Core.Path.{_≡_, refl}
-use mathlib.Core.Bool.{Bool, true, false}
+use mathlib.Core.Bool.{true, false}
 use mathlib.Core.List.{_∷_}
 use Rattle.part.specs.declared.ChannelId.{ChannelId}
 use Rattle.part.specs.declared.FanId.{FanId}
@@ -16,10 +16,6 @@ use Rattle.stored.specs.Stored.{storedAfter, limitsAfter, fanBytesAfter, settin
 use Rattle.history.specs.Events.{History, act, stored, reply, accepted, pinLow, limits, fanBytes, settings}
 use Rattle.history.specs.Temperatures.{reading, latch, flag, highBit, lowBit, thermBit, channel, channels}
 use Rattle.history.specs.Duties.{setting, spin, spinAfter, beatWith, priorSpin}
-
-pub by-cases {ℓ} : {P : Type ℓ} (b : Bool) → (b ≡ true → P) → (b ≡ false → P) → P
-by-cases true t f = t refl
-by-cases false t f = f refl
 
 -- the kind of an act is that of its event
 pub kind-is : (k : Kind) (e : Event) → isA k (act e) ≡ isKind k e

@@ -21,10 +21,11 @@ use Rattle.channel.specs.Channels.{readingAfter, latchAfter, flagAfter, overAft
 use Rattle.fan.specs.Fans.{fanAfter, fanIn}
 use Rattle.chip.specs.Chips.{addressAfter, frontAfter, chipWith, chipUnder, chipAfter}
 use Rattle.chip.specs.declared.Chip.{Chip}
+use Rattle.drive.proofs.RampLaws.{by-cases}
 use Rattle.history.specs.Events.{History, act, powersUp, powered, address, stored, reply, accepted}
 use Rattle.history.specs.Temperatures.{latch}
 use Rattle.history.specs.Duties.{spin, still}
-use Rattle.history.proofs.HistoryLaws.{by-cases, kind-is, refused-stored, refused-spin}
+use Rattle.history.proofs.HistoryLaws.{kind-is, refused-stored, refused-spin}
 
 -- without power the reply asks nothing of the keeper
 pub off-reply : (a b : ℕ) (m n : Bool) (e : Event) → replyOf false a m e ≡ replyOf false b n e

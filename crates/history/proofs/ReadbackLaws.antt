@@ -26,11 +26,11 @@ use Rattle.reading.proofs.Laws.{lossless}
 use Rattle.register.specs.Table.{registerAt}
 use Rattle.act.specs.Acts.{actOf, fresh, samples}
 use Rattle.channel.specs.Channels.{readingAfter}
+use Rattle.drive.proofs.RampLaws.{by-cases}
 use Rattle.history.specs.Events.{History, act, powered, address, stored, reply, accepted}
 use Rattle.history.specs.Temperatures.{reading}
 use Rattle.history.specs.Shows.{value, valueOf}
 use Rattle.history.specs.Readback.{valueAddress, Readback}
-use Rattle.history.proofs.HistoryLaws.{by-cases}
 
 -- ---- what a sample brings
 

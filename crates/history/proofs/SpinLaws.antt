@@ -16,11 +16,12 @@ use Rattle.drive.specs.declared.Drive.{Drive}
 use Rattle.drive.specs.Drive.{startsOf, leftOf, keptOf, drivenOf}
 use Rattle.drive.proofs.DriveLaws.{spin-up-pos, wanted, full, duty-zero, zero-duty, plain}
 use Rattle.fan.specs.Fans.{settingOf}
+use Rattle.drive.proofs.RampLaws.{by-cases}
 use Rattle.history.specs.Events.{History, stored, accepted, settings}
 use Rattle.history.specs.Temperatures.{thermAsserted, channel, channels}
 use Rattle.history.specs.Duties.{setting, Spin, left, spinAt, givenAfter, sinceAfter, spinAfter, priorSpin, beatWith, spin}
 use Rattle.history.specs.Demand3.{overridden}
-use Rattle.history.proofs.HistoryLaws.{by-cases, refused-setting, refused-spin, accepted-spin}
+use Rattle.history.proofs.HistoryLaws.{refused-setting, refused-spin, accepted-spin}
 
 -- the setting's override is that of the demand
 pub override-is : (f : FanId) (h : History) → setting f h .overridden ≡ overridden h

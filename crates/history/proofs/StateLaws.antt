@@ -24,10 +24,11 @@ use Rattle.fan.specs.declared.Fan.{Fan}
 use Rattle.chip.specs.Chips.{frontAfter, chipWith, chipUnder, chipAfter}
 use Rattle.chip.specs.declared.Front.{Front}
 use Rattle.chip.specs.declared.Chip.{Chip}
+use Rattle.drive.proofs.RampLaws.{by-cases}
 use Rattle.history.specs.Events.{History, act, address, stored, accepted, pointer, pinLow, diodeError1, diodeError2, pulled, limits, fanBytes, settings}
 use Rattle.history.specs.Temperatures.{reading, latch, flag, highBit, lowBit, thermBit, channel, channels}
 use Rattle.history.specs.Duties.{setting, Spin, spin, priorSpin, judgesWith, failsWith, tachOn, judged, failed, failures, atAlarm, alarmBit, faultBit}
-use Rattle.history.proofs.HistoryLaws.{by-cases, accepted-settings, accepted-spin}
+use Rattle.history.proofs.HistoryLaws.{accepted-settings, accepted-spin}
 use Rattle.history.proofs.PowerLaws.{accepted-address}
 use Rattle.history.proofs.SpinLaws.{driveOf, spin-driven}
 

@@ -16,13 +16,13 @@ use Rattle.stored.specs.Stored.{storedAfter}
 use Rattle.drive.specs.declared.Drive.{Drive}
 use Rattle.drive.specs.Ramp.{nearerOf}
 use Rattle.drive.specs.Drive.{drivenOf}
-use Rattle.drive.proofs.RampLaws.{nearer-is, nearer-sum}
+use Rattle.drive.proofs.RampLaws.{nearer-is, nearer-sum, by-cases}
 use Rattle.drive.proofs.DriveLaws.{wanted, counted, ramped-step}
 use Rattle.fan.specs.Fans.{settingOf}
 use Rattle.history.specs.Events.{History, act, stored, accepted, settings}
 use Rattle.history.specs.Duties.{setting, Spin, left, priorSpin, beatWith, failsWith, spin, duty, spinLeft, failed, periodsIn, clocksIn}
 use Rattle.history.specs.Demand3.{filtered, rate, overridden, Settled, disturbs, Stretch}
-use Rattle.history.proofs.HistoryLaws.{kind-is, by-cases, refused-stored, refused-spin, accepted-stored}
+use Rattle.history.proofs.HistoryLaws.{kind-is, refused-stored, refused-spin, accepted-stored}
 use Rattle.history.proofs.SpinLaws.{override-is, driveOf, sound, spun, spin-step}
 
 or-left : (a b : Bool) → (a || b) ≡ false → a ≡ false

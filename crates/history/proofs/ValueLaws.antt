@@ -18,11 +18,12 @@ use Rattle.register.specs.Table.{Row, says, table, registerAt, maskAt, resetAt}
 use Rattle.register.specs.declared.Found.the-variants.{At, Nowhere}
 use Rattle.stored.specs.Stored.{storedAfter}
 use Rattle.output.specs.Outputs as output
+use Rattle.drive.proofs.RampLaws.{by-cases}
 use Rattle.history.specs.Events.{History, act, powersUp, powered, stored, accepted, limits, fanBytes, settings}
 use Rattle.history.specs.Temperatures.{channel, channels, thermAsserted}
 use Rattle.history.specs.Duties.{duty, failures}
 use Rattle.history.specs.Shows as shows
-use Rattle.history.proofs.HistoryLaws.{kind-is, by-cases, refused-stored, accepted-stored}
+use Rattle.history.proofs.HistoryLaws.{kind-is, refused-stored, accepted-stored}
 use Rattle.history.proofs.PowerLaws.{off-accepted, refused-powered}
 use Rattle.history.proofs.StateLaws.{frontOf, fanOf, chipOf}
 

@@ -29,6 +29,7 @@ use Rattle.chip.specs.Chips.{chipAfter}
 use Rattle.chip.specs.declared.Chip.{Chip}
 use Rattle.output.specs.Outputs.{valueAt, shownOf}
 use Rattle.num.specs.Bits.{bitOf}
+use Rattle.buffer.proofs.Laws.{sets-append}
 use Rattle.keeper.specs.declared.Keeper.{Keeper}
 use Rattle.keeper.specs.declared.Keeper.the-variants.{Off, On}
 use Rattle.keeper.specs.declared.Answered.{Answered}
@@ -81,10 +82,6 @@ unfolding shownBy
 shown-chip p e = rw p e
 
 -- ---- the image
-
-sets-append : (a b l : List ℕ) (i : ℕ) → sets l i (a ++ b) ≡ sets (sets l i a) (i + length a) b
-sets-append [] b l i = rw add-zero
-sets-append (x ∷ a) b l i = sets-append a b (set l i x) (suc i) ∙ ap (λ (k : ℕ). sets (sets (set l i x) (suc i) a) k b) (omega arith)
 
 values-length : (a n : ℕ) (c : Chip) → length (valuesFrom a n c) ≡ n
 unfolding valuesFrom

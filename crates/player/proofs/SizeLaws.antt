@@ -23,10 +23,10 @@ use Rattle.trace.specs.declared.Reading.the-variants as reading
 use Rattle.trace.proofs.Onward.{onward, wrong-place}
 use Rattle.report.specs.Report.{entryText}
 use Rattle.measure.proofs.Laws.{reply-length-as, pin-length, duty-length, entry-length, malformed-length}
+use Rattle.drive.proofs.RampLaws.{by-cases}
 use Rattle.history.specs.Events.{History, accepted, reply, pointer}
 use Rattle.history.specs.Temperatures.{thermAsserted}
 use Rattle.history.specs.Shows.{answer, intAsserted, faultAsserted, shown}
-use Rattle.history.proofs.HistoryLaws.{by-cases}
 use Rattle.history.proofs.BoundsLaws.{bounds}
 use Rattle.player.specs.Report.{outcome, lines, reportFrom, reportOf, Bounded}
 

@@ -25,7 +25,7 @@ every : (Row → Bool) → List Row → Bool
 every test [] = true
 every test (r ∷ rs) = test r && every test rs
 
-both : (a b : Bool) → (a && b) ≡ true → (a ≡ true) × (b ≡ true)
+pub both : (a b : Bool) → (a && b) ≡ true → (a ≡ true) × (b ≡ true)
 both true b h = (refl, h)
 both false b h = let z : _≡_ {A = Bool} true false = cc in absurd (never z)
   where
