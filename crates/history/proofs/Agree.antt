@@ -3,10 +3,7 @@ use Prim.Native.Nat.{ℕ, zero, suc}
 use mathlib.Core.Path.{_≡_, refl, sym, ap, _∙_}
 use mathlib.Core.Bool.{Bool, true, false, cond, _&&_, true≢false}
 use mathlib.Core.List.{List, [], _∷_}
-use lib.Dec.{ltb}
 use borrow.Author.Tests.{eqb-true}
-use lib.ListN.{length}
-use lib.Seq.{sets}
 use Rattle.num.specs.Bits.{bitOf}
 use Rattle.part.specs.declared.ChannelId.the-variants.{Local, Remote1, Remote2}
 use Rattle.part.specs.declared.FanId.{FanId}
@@ -15,7 +12,7 @@ use Rattle.event.specs.Kinds.{isKind, placeOf, kindOf}
 use Rattle.event.specs.declared.Event.{Event}
 use Rattle.event.specs.declared.Kind.the-variants as kind
 use Rattle.event.specs.declared.Answer.{Answer}
-use Rattle.event.specs.declared.Answer.the-variants.{Done, NoPower, WrongSize}
+use Rattle.event.specs.declared.Answer.the-variants.{Done}
 use Rattle.event.specs.declared.Shown.{Shown}
 use Rattle.request.specs.Replies.{verdictOf}
 use Rattle.request.specs.Request.{asked}
@@ -150,12 +147,12 @@ unfolding valuesFrom shows.valuesFrom
 values-is h on a zero = refl
 values-is h on a (suc n) = rw (value-is h on a, values-is h on (suc a) n)
 
-image-is : (h : History) (buffer : List ℕ) → imageAnswer (stateOf h) buffer ≡ cond (powered h) (cond (ltb (length buffer) 64) WrongSize (Done 0)) NoPower
-unfolding imageAnswer stateOf
+image-is : (h : History) (buffer : List ℕ) → imageAnswer (stateOf h) buffer ≡ shows.imageReply buffer h
+unfolding imageAnswer stateOf shows.imageReply
 image-is h buffer = by-cases (powered h) (λ on. rw on) (λ off. rw off)
 
-buffer-is : (h : History) (buffer : List ℕ) → imageBuffer (stateOf h) buffer ≡ cond (powered h) (cond (ltb (length buffer) 64) buffer (sets buffer 0 (shows.valuesFrom 0 64 h))) buffer
-unfolding imageBuffer stateOf
+buffer-is : (h : History) (buffer : List ℕ) → imageBuffer (stateOf h) buffer ≡ shows.imageHeld buffer h
+unfolding imageBuffer stateOf shows.imageHeld
 buffer-is h buffer = by-cases (powered h) (λ on. rw on (rw (values-is h on 0 64))) (λ off. rw off)
 
 pub agreement : (h : History) → Agreement h

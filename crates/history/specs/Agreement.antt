@@ -1,18 +1,13 @@
 -- The agreement: what stepping a keeper that never had power through a list of events answers and shows is what the rules say of that list.
 use Prim.Native.Nat.{ℕ}
 use mathlib.Core.Path.{_≡_}
-use mathlib.Core.Bool.{cond}
 use mathlib.Core.List.{List, [], _∷_}
-use lib.Dec.{ltb}
-use lib.ListN.{length}
-use lib.Seq.{sets}
 use Rattle.event.specs.declared.Event.{Event}
-use Rattle.event.specs.declared.Answer.the-variants.{Done, NoPower, WrongSize}
 use Rattle.keeper.specs.Keeping.{answerOf, shownBy, imageAnswer, imageBuffer}
 use Rattle.keeper.specs.declared.Keeper.{Keeper}
 use Rattle.keeper.specs.declared.Keeper.the-variants.{Off}
-use Rattle.history.specs.Events.{History, powered}
-use Rattle.history.specs.Shows.{shown, answer, valuesFrom}
+use Rattle.history.specs.Events.{History}
+use Rattle.history.specs.Shows.{shown, answer, imageReply, imageHeld}
 
 -- each event gets the keeper that the one before it left
 unfoldable pub run : History → Keeper
@@ -23,5 +18,5 @@ run (e ∷ h) = (answerOf (run h) e) .keeper
 pub record Agreement (h : History) : Type 0 where
   pub answers : (e : Event) → (answerOf (run h) e) .answer ≡ answer e h
   pub shows : shownBy (run h) ≡ shown h
-  pub image : (buffer : List ℕ) → imageAnswer (run h) buffer ≡ cond (powered h) (cond (ltb (length buffer) 64) WrongSize (Done 0)) NoPower
-  pub buffer : (buffer : List ℕ) → imageBuffer (run h) buffer ≡ cond (powered h) (cond (ltb (length buffer) 64) buffer (sets buffer 0 (valuesFrom 0 64 h))) buffer
+  pub image : (buffer : List ℕ) → imageAnswer (run h) buffer ≡ imageReply buffer h
+  pub buffer : (buffer : List ℕ) → imageBuffer (run h) buffer ≡ imageHeld buffer h

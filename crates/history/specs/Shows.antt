@@ -2,7 +2,9 @@
 use Prim.Native.Nat.{ℕ, zero, suc}
 use mathlib.Core.Bool.{Bool, cond, _&&_, _||_}
 use mathlib.Core.List.{List, [], _∷_}
-use lib.Dec.{leb}
+use lib.Dec.{ltb, leb}
+use lib.ListN.{length}
+use lib.Seq.{sets}
 use Rattle.num.specs.Bits.{bitOf, flagOf}
 use Rattle.part.specs.declared.ChannelId.the-variants.{Local, Remote1, Remote2}
 use Rattle.part.specs.declared.FanId.{FanId}
@@ -11,7 +13,7 @@ use Rattle.event.specs.Kinds.{isKind}
 use Rattle.event.specs.declared.Event.{Event}
 use Rattle.event.specs.declared.Kind.the-variants as kind
 use Rattle.event.specs.declared.Answer.{Answer}
-use Rattle.event.specs.declared.Answer.the-variants.{Done}
+use Rattle.event.specs.declared.Answer.the-variants.{Done, NoPower, WrongSize}
 use Rattle.event.specs.declared.Shown.{Shown}
 use Rattle.reading.specs.Reading.{byteOf, remainderOf, extendedOf}
 use Rattle.register.specs.Table.{registerAt}
@@ -20,7 +22,7 @@ use Rattle.register.specs.declared.Register.the-variants as register
 use Rattle.register.specs.declared.Found.{Found}
 use Rattle.register.specs.declared.Found.the-variants.{At, Nowhere}
 use Rattle.output.specs.Outputs.{packed}
-use Rattle.history.specs.Events.{History, stored, reply, accepted, pointer, diodeError1, diodeError2, pulled}
+use Rattle.history.specs.Events.{History, powered, stored, reply, accepted, pointer, diodeError1, diodeError2, pulled}
 use Rattle.history.specs.Temperatures.{reading, enabledChannel, highBit, lowBit, thermBit, thermAsserted}
 use Rattle.history.specs.Duties.{duty, failures, alarmBit, faultBit}
 
@@ -64,6 +66,13 @@ value a h = foundValue (registerAt a) h
 unfoldable pub valuesFrom : (from count : ℕ) → History → List ℕ
 valuesFrom a zero h = []
 valuesFrom a (suc n) h = value a h ∷ valuesFrom (suc a) n h
+
+-- below the reply table: what the image is answered, and what the lent buffer then holds
+unfoldable pub imageReply : (buffer : List ℕ) → History → Answer
+imageReply buffer h = cond (powered h) (cond (ltb (length buffer) 64) WrongSize (Done 0)) NoPower
+
+unfoldable pub imageHeld : (buffer : List ℕ) → History → List ℕ
+imageHeld buffer h = cond (powered h) (cond (ltb (length buffer) 64) buffer (sets buffer 0 (valuesFrom 0 64 h))) buffer
 
 -- temperatures 8: INT
 unfoldable pub pending : History → Bool
