@@ -1,14 +1,15 @@
 // The temperature channels, and what an accepted event makes of them: reading, THERM latch, run flag, status bits.
 // One function serves all three.
+mod marks;
+
 use act::Act;
 use event::Kind;
 use part::ChannelId;
-use part::FanId;
 use stored::Limits;
 use stored::Settings;
 ghost use mathlib.Core.Path.{_≡_};
 ghost use Rattle.demand.specs.Demand.{tminOf};
-ghost use Rattle.channel.specs.Channels.{measuredOf, readingAfter, latchAfter, flagAfter, limitBitsIn, thermBitIn, clearsBit, overAfter, underAfter, hotAfter, passesBy, channelKept, channelAfter, channelsAfter, thermOf};
+ghost use Rattle.channel.specs.Channels.{measuredOf, readingAfter, latchAfter, flagAfter, passesBy, channelKept, channelAfter, channelsAfter, thermOf};
 
 // The last reading, the THERM latch and the run flag; then the high, low and THERM status bits.
 pub struct Channel {
@@ -73,62 +74,6 @@ fn flag_after(c: ChannelId, control: u8, r: Act, was: bool) -> bool
     )
 }
 
-// The status register, by its fan, of a channel's high and low bits, and of its THERM bit.
-fn limit_bits_in(c: ChannelId) -> FanId
-    ensures { λ f. ⌜ f ≡ limitBitsIn c ⌝ }
-{
-    match c {
-        ChannelId::Local => FanId::One,
-        ChannelId::Remote1 => FanId::One,
-        ChannelId::Remote2 => FanId::Two,
-    }
-}
-
-fn therm_bit_in(c: ChannelId) -> FanId
-    ensures { λ f. ⌜ f ≡ thermBitIn c ⌝ }
-{
-    match c {
-        ChannelId::Local => FanId::Two,
-        ChannelId::Remote1 => FanId::One,
-        ChannelId::Remote2 => FanId::Two,
-    }
-}
-
-fn clears_bit(f: FanId, enabled: bool, pointer: u8, r: Act) -> bool
-    ensures { λ b. ⌜ b ≡ clearsBit f enabled pointer r ⌝ }
-{
-    act::is_fresh(r) | (act::is_read(stored::status_at(f), pointer, r) | !enabled)
-}
-
-fn over_after(c: ChannelId, high: u8, enabled: bool, pointer: u8, r: Act, was: bool) -> bool
-    ensures { λ b. ⌜ b ≡ overAfter c high enabled pointer r was ⌝ }
-{
-    let sets = act::is_sample(c, r) & (enabled & reading::over(high, measured(r)));
-    act::mark_after(sets, clears_bit(limit_bits_in(c), enabled, pointer, r), was)
-}
-
-fn under_after(c: ChannelId, low: u8, enabled: bool, pointer: u8, r: Act, was: bool) -> bool
-    ensures { λ b. ⌜ b ≡ underAfter c low enabled pointer r was ⌝ }
-{
-    let sets = act::is_sample(c, r) & (enabled & reading::under(low, measured(r)));
-    act::mark_after(sets, clears_bit(limit_bits_in(c), enabled, pointer, r), was)
-}
-
-fn hot_after(
-    c: ChannelId,
-    enabled: bool,
-    before: bool,
-    after: bool,
-    pointer: u8,
-    r: Act,
-    was: bool,
-) -> bool
-    ensures { λ b. ⌜ b ≡ hotAfter c enabled before after pointer r was ⌝ }
-{
-    let sets = act::is_sample(c, r) & (enabled & (!before & after));
-    act::mark_after(sets, clears_bit(therm_bit_in(c), enabled, pointer, r), was)
-}
-
 // An event that is none of the channel's: no start afresh, no sample of it, no read.
 fn passes_by(c: ChannelId, r: Act) -> bool
     ensures { λ b. ⌜ b ≡ passesBy c r ⌝ }
@@ -165,9 +110,9 @@ fn channel_moved(
         reading: reading_after(c, r, was.reading),
         latch,
         flag: flag_after(c, l.control, r, was.flag),
-        over: over_after(c, l.high, enabled, pointer, r, was.over),
-        under: under_after(c, l.low, enabled, pointer, r, was.under),
-        hot: hot_after(c, enabled, was.latch, latch, pointer, r, was.hot),
+        over: marks::over_after(c, l.high, enabled, pointer, r, was.over),
+        under: marks::under_after(c, l.low, enabled, pointer, r, was.under),
+        hot: marks::hot_after(c, enabled, was.latch, latch, pointer, r, was.hot),
     }
 }
 

@@ -1,6 +1,6 @@
-pub mod Numbers
+pub mod NumberLaws
 pub mod Registers
 pub mod Plain
 pub mod Parts
-pub mod Transfers
+pub mod TransferLaws
 pub mod Cases

@@ -21,7 +21,7 @@ use Rattle.request.specs.Replies.{oddLocal, replyOf, verdictOf}
 use Rattle.request.specs.declared.Request.the-variants as ask
 use Rattle.request.specs.declared.Verdict.{Verdict}
 use Rattle.request.specs.declared.Verdict.the-variants.{Accept, Refuse}
-use Rattle.request.proofs.Numbers.{fails, holds, above, inside, value, eighths-odd}
+use Rattle.request.proofs.NumberLaws.{fails, holds, above, inside, value, eighths-odd}
 
 module _ (address : ℕ) (monitoring : Bool) (n : Numbers) {who : MaybeChannel} (ew : who ≡ channelOf (n .who)) where
   abbrev sample : Verdict

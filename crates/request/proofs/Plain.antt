@@ -15,7 +15,7 @@ use Rattle.request.specs.Replies.{replyOf, verdictOf}
 use Rattle.request.specs.declared.Request.the-variants as ask
 use Rattle.request.specs.declared.Verdict.{Verdict}
 use Rattle.request.specs.declared.Verdict.the-variants.{Accept, Refuse}
-use Rattle.request.proofs.Numbers.{above, under, inside, value}
+use Rattle.request.proofs.NumberLaws.{above, under, inside, value}
 
 module _ (address : ℕ) (monitoring : Bool) (n : Numbers) where
   abbrev power : Verdict

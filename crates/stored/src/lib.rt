@@ -1,11 +1,13 @@
 // The bytes that the chip stores, and what an accepted event makes of them.
 // A byte is known by its address in the register table.
+mod addresses;
+
 use act::Act;
 use event::Kind;
 use part::ChannelId;
 use part::FanId;
 ghost use mathlib.Core.Path.{_≡_};
-ghost use Rattle.stored.specs.Stored.{offsetAt, highAt, lowAt, thermAt, controlAt, speedAt, tachLimitAt, characteristicsAt, statusAt, counts, storedAfter, idle, limitsAfter, fanBytesAfter, settingsAfter, outputEnabled, tachEnabled, channelEnabled, filterEnabled};
+ghost use Rattle.stored.specs.Stored.{speedAt, statusAt, counts, storedAfter, idle, limitsAfter, fanBytesAfter, settingsAfter, outputEnabled, tachEnabled, channelEnabled, filterEnabled};
 
 // The bytes of a channel's registers.
 pub struct Limits {
@@ -57,75 +59,6 @@ pub fn status_at(f: FanId) -> u8
     }
 }
 
-// A channel's registers stand four apart among the limits, and side by side elsewhere.
-fn offset_at(c: ChannelId) -> u8
-    ensures { λ r. ⌜ r ≡ offsetAt c ⌝ }
-{
-    match c {
-        ChannelId::Local => 0x0D,
-        ChannelId::Remote1 => 0x0E,
-        ChannelId::Remote2 => 0x0F,
-    }
-}
-
-fn high_at(c: ChannelId) -> u8
-    ensures { λ r. ⌜ r ≡ highAt c ⌝ }
-{
-    match c {
-        ChannelId::Local => 0x14,
-        ChannelId::Remote1 => 0x18,
-        ChannelId::Remote2 => 0x1C,
-    }
-}
-
-fn low_at(c: ChannelId) -> u8
-    ensures { λ r. ⌜ r ≡ lowAt c ⌝ }
-{
-    match c {
-        ChannelId::Local => 0x15,
-        ChannelId::Remote1 => 0x19,
-        ChannelId::Remote2 => 0x1D,
-    }
-}
-
-fn therm_at(c: ChannelId) -> u8
-    ensures { λ r. ⌜ r ≡ thermAt c ⌝ }
-{
-    match c {
-        ChannelId::Local => 0x16,
-        ChannelId::Remote1 => 0x1A,
-        ChannelId::Remote2 => 0x1E,
-    }
-}
-
-fn control_at(c: ChannelId) -> u8
-    ensures { λ r. ⌜ r ≡ controlAt c ⌝ }
-{
-    match c {
-        ChannelId::Local => 0x24,
-        ChannelId::Remote1 => 0x25,
-        ChannelId::Remote2 => 0x26,
-    }
-}
-
-fn tach_limit_at(f: FanId) -> u8
-    ensures { λ r. ⌜ r ≡ tachLimitAt f ⌝ }
-{
-    match f {
-        FanId::One => 0x10,
-        FanId::Two => 0x11,
-    }
-}
-
-fn characteristics_at(f: FanId) -> u8
-    ensures { λ r. ⌜ r ≡ characteristicsAt f ⌝ }
-{
-    match f {
-        FanId::One => 0x20,
-        FanId::Two => 0x21,
-    }
-}
-
 // ---- bytes after an event
 
 fn is_count_at(address: u8, r: Act) -> bool
@@ -152,11 +85,11 @@ fn limits_after(c: ChannelId, r: Act, l: Limits) -> Limits
     ensures { λ b. ⌜ b ≡ limitsAfter c r l ⌝ }
 {
     Limits {
-        offset: stored_after(offset_at(c), r, l.offset),
-        high: stored_after(high_at(c), r, l.high),
-        low: stored_after(low_at(c), r, l.low),
-        therm: stored_after(therm_at(c), r, l.therm),
-        control: stored_after(control_at(c), r, l.control),
+        offset: stored_after(addresses::offset_at(c), r, l.offset),
+        high: stored_after(addresses::high_at(c), r, l.high),
+        low: stored_after(addresses::low_at(c), r, l.low),
+        therm: stored_after(addresses::therm_at(c), r, l.therm),
+        control: stored_after(addresses::control_at(c), r, l.control),
     }
 }
 
@@ -165,8 +98,8 @@ fn fan_bytes_after(f: FanId, r: Act, b: FanBytes) -> FanBytes
 {
     FanBytes {
         speed: stored_after(speed_at(f), r, b.speed),
-        limit: stored_after(tach_limit_at(f), r, b.limit),
-        characteristics: stored_after(characteristics_at(f), r, b.characteristics),
+        limit: stored_after(addresses::tach_limit_at(f), r, b.limit),
+        characteristics: stored_after(addresses::characteristics_at(f), r, b.characteristics),
     }
 }
 

@@ -1,5 +1,5 @@
 use Rattle.request.proofs.Plain.{power-above, power-under, power-arg, power-val, power-accept}
-use Rattle.request.proofs.Numbers.{byte-fits}
+use Rattle.request.proofs.NumberLaws.{byte-fits}
 use borrow.Author.Needs.{needs}
 use Rattle.request.proofs.power.Statement.{statement}
 use Rattle.request.proofs.power.Tie as tie

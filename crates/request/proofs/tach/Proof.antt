@@ -1,5 +1,5 @@
 use Rattle.request.proofs.Parts.{tach-nowhere, tach-arg, tach-out, tach-accept, tach-off}
-use Rattle.request.proofs.Numbers.{byte-fits}
+use Rattle.request.proofs.NumberLaws.{byte-fits}
 use borrow.Author.Needs.{needs}
 use Rattle.request.proofs.tach.Statement.{statement}
 use Rattle.request.proofs.tach.Tie as tie
