@@ -1,9 +1,10 @@
 -- A channel's reading by the kind of the event. Assumes nothing.
 use Prim.Native.Nat.{ℕ}
 use mathlib.Core.Bool.{Bool, true, false, cond, not, _&&_, _||_}
-use mathlib.Core.Path.{_≡_, refl, sym, ap, _∙_}
+use mathlib.Core.Path.{_≡_, refl, sym, _∙_}
+use borrow.Author.Tests.{not-true}
+use Rattle.num.proofs.BoolLaws.{neither}
 use Rattle.part.specs.declared.ChannelId.{ChannelId}
-use Rattle.act.proofs.Laws.{neither}
 use Rattle.act.specs.Acts.{isA, fresh, samples}
 use Rattle.act.specs.declared.Act.{Act}
 use Rattle.channel.specs.Channels.{measuredOf, readingAfter, latchAfter, flagAfter, overAfter, underAfter, hotAfter, passesBy, channelKept, channelAfter}
@@ -37,6 +38,6 @@ pub kept-is : (c : ChannelId) (l : Limits) (enabled : Bool) (pointer : ℕ) (r :
     → k ≡ channelAfter c l enabled pointer r was
 unfolding channelAfter readingAfter latchAfter flagAfter overAfter underAfter hotAfter
 kept-is c l enabled pointer r was e t q =
-    let a = neither (fresh r) (samples c r || isA kind.Read r) (sym e ∙ t) in
-    let b = neither (samples c r) (isA kind.Read r) (ap not (a .1)) in
+    let a = neither (fresh r) (samples c r || isA kind.Read r) (not-true (fresh r || (samples c r || isA kind.Read r)) (sym e ∙ t)) in
+    let b = neither (samples c r) (isA kind.Read r) (a .1) in
     q ∙ rw (a .0, b .0, b .1, unmarked enabled (was .over), unmarked enabled (was .under), unmarked enabled (was .hot))

@@ -11,6 +11,7 @@ use lib.Seq.{append-snoc}
 use mir.Syntax.{w32}
 use mir.Val.{SFits}
 use borrow.Author.Tests.{lt-ltb, le-leb, ne-eqb, ltb-true, ltb-false, leb-true, eqb-true, eqb-false}
+use Rattle.num.proofs.BoolLaws.{both}
 use Rattle.num.specs.declared.Signed.the-variants as signed
 use Rattle.num.specs.Range.{signedOf}
 use Rattle.decimal.specs.declared.Magnitude.{Magnitude}
@@ -97,10 +98,6 @@ round-trip (negsuc n) f = rw (plain-back (suc n), lt-ltb n 2147483648 (f .sfits)
 held : (t : Bool) (m : Magnitude) {n : ℕ} → cond t m Bad ≡ Value n → (t ≡ true) × (m ≡ Value n)
 held true m e = (refl, e)
 held false m e = let z : _≡_ {A = ℕ} 0 1 = cc in absurd (omega arith)
-
-both : (a b : Bool) → a && b ≡ true → (a ≡ true) × (b ≡ true)
-both true b e = (refl, e)
-both false b e = let z : _≡_ {A = ℕ} 0 1 = cc in absurd (omega arith)
 
 -- a digit, and the value of what follows it
 digit : (v b : ℕ) (bs : List ℕ) {n : ℕ} → digitsFrom v (b ∷ bs) ≡ Value n → (48 ≤ b) × (b ≤ 57) × (digitsFrom (v * 10 + (b - 48)) bs ≡ Value n)

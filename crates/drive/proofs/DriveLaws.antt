@@ -6,21 +6,21 @@ use native.Mathlib.Omega.{arith}
 use lib.Dec.{ltb, eqb}
 use borrow.Author.Needs.{needs}
 use borrow.Author.Tests.{ltb-true, eqb-false, lt-ltb, eq-eqb, ne-eqb}
+use Rattle.num.proofs.BoolLaws.{by-cases, either}
 use Rattle.drive.specs.declared.Setting.{Setting}
 use Rattle.drive.specs.declared.Beat.{Beat}
 use Rattle.drive.specs.declared.Drive.{Drive}
 use Rattle.drive.specs.Ramp.{nearerOf}
 use Rattle.drive.specs.Drive.{spinUpOf, dutyOf, startsOf, leftOf, drivenOf}
-use Rattle.drive.proofs.RampLaws.{by-cases, nearer-pos}
+use Rattle.drive.proofs.RampLaws.{nearer-pos}
 
 -- one of two numbers above 0
-either : (t : Bool) {x y : ℕ} → 0 < x → 0 < y → 0 < cond t x y
-either true h k = h
-either false h k = k
+positive : (t : Bool) {x y : ℕ} → 0 < x → 0 < y → 0 < cond t x y
+positive t h k = either (λ (x : ℕ). 0 < x) t h k
 
 pub spin-up-pos : (c : ℕ) → 0 < spinUpOf c
 unfolding spinUpOf
-spin-up-pos c = search (either, needs) depth 9
+spin-up-pos c = search (positive, needs) depth 9
 
 -- whether a fan is to run
 abbrev pub wanted : Setting → Bool
@@ -76,7 +76,7 @@ module _ (s : Setting) (b : Beat) (d : Drive) where
           (λ t. absurd (true≢false (sym (simp (o, t, and-false) at w))))
 
       going : 0 < s .target → 0 < d .duty → 0 < cond (ltb 0 (leftOf s b d)) 240 (cond (s .filtered) (cond (b .period) (nearerOf (s .rate) (s .target) (d .duty)) (d .duty)) (s .target))
-      going t k = search (either, nearer-pos, needs)
+      going t k = search (positive, nearer-pos, needs)
 
   pub zero-duty : 0 < s .«spin_up» → (drivenOf s b d) .duty ≡ 0 → wanted s ≡ false
   zero-duty h z = by-cases (wanted s) (λ w. absurd (omega (arith, running h w))) (λ w. w)

@@ -1,18 +1,14 @@
 -- The ramp law, and what it rests on: one step of the filter. Assumes nothing.
 use Prim.Native.Nat.{ℕ, zero, suc, _+_, _-_, _*_, _<_, _≤_, min, max}
-use mathlib.Core.Path.{_≡_, refl, sym, ap, _∙_}
-use mathlib.Core.Bool.{Bool, true, false}
+use mathlib.Core.Path.{_≡_, sym, ap, _∙_}
 use mathlib.Core.List.{List, [], _∷_}
 use native.Mathlib.Nat.{suc-mul}
 use native.Mathlib.Omega.{arith}
 use lib.Dec.{ltb}
 use lib.ListN.{length, replicate}
 use borrow.Author.Tests.{ltb-true, ltb-false}
+use Rattle.num.proofs.BoolLaws.{by-cases}
 use Rattle.drive.specs.Ramp.{nearerOf, outside, ramped, Between, RampLaw}
-
-pub by-cases {ℓ} : {P : Type ℓ} (b : Bool) → (b ≡ true → P) → (b ≡ false → P) → P
-by-cases true t f = t refl
-by-cases false t f = f refl
 
 -- one step, without its test
 pub nearer-is : (r t d : ℕ) → nearerOf r t d ≡ max (d - r) (min (d + r) t)

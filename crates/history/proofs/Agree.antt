@@ -4,6 +4,7 @@ use mathlib.Core.Path.{_≡_, refl, sym, ap, _∙_}
 use mathlib.Core.Bool.{Bool, true, false, cond, _&&_, true≢false}
 use mathlib.Core.List.{List, [], _∷_}
 use borrow.Author.Tests.{eqb-true}
+use Rattle.num.proofs.BoolLaws.{by-cases}
 use Rattle.num.specs.Bits.{bitOf}
 use Rattle.part.specs.declared.ChannelId.the-variants.{Local, Remote1, Remote2}
 use Rattle.part.specs.declared.FanId.{FanId}
@@ -23,7 +24,6 @@ use Rattle.keeper.specs.Keeping.{blank, dataFor, decided, answerOf, shownBy, va
 use Rattle.keeper.specs.declared.Keeper.{Keeper}
 use Rattle.keeper.specs.declared.Keeper.the-variants.{Off, On}
 use Rattle.keeper.specs.declared.Answered.{Answered}
-use Rattle.drive.proofs.RampLaws.{by-cases}
 use Rattle.history.specs.Events.{History, act, powersUp, powered, address, stored, reply, accepted, pointer, pinLow, diodeError1, diodeError2, pulled, settings}
 use Rattle.history.specs.Temperatures.{thermAsserted}
 use Rattle.history.specs.Duties.{Spin, duty, failures, atAlarm, alarmBit, faultBit}

@@ -1,13 +1,14 @@
 -- Every stored byte, register value and duty is in its bounds. Assumes nothing.
 use Prim.Native.Nat.{ℕ, _-_, _*_, _≤_, _<_}
 use mathlib.Core.Path.{_≡_, sym}
-use mathlib.Core.Bool.{Bool, true, false, cond, not, _&&_, true≢false, and-false}
+use mathlib.Core.Bool.{Bool, true, false, not, _&&_, true≢false, and-false}
 use mathlib.Core.List.{[], _∷_}
 use native.Mathlib.Omega.{arith}
 use lib.Bits.{bitAnd, and-le-r, or-lt}
 use lib.Dec.{eqb, leb, ltb}
 use lib.IntN.{ℤ, pos, negsuc}
 use borrow.Author.Tests.{leb-true, not-false}
+use Rattle.num.proofs.BoolLaws.{by-cases, either, both}
 use Rattle.num.specs.Bits.{bitOf, mergedOf}
 use Rattle.num.specs.Range.{is, within, natural}
 use Rattle.part.specs.declared.ChannelId.the-variants.{Local, Remote1, Remote2}
@@ -20,7 +21,7 @@ use Rattle.event.specs.declared.Event.{Event}
 use Rattle.event.specs.declared.Event.the-variants as event
 use Rattle.event.specs.declared.Transfer.the-variants as transfer
 use Rattle.register.specs.Table.{maskAt, registerAt}
-use Rattle.register.proofs.Laws.{both, mask-small, reset-small}
+use Rattle.register.proofs.Laws.{mask-small, reset-small}
 use Rattle.register.specs.declared.Register.{Register}
 use Rattle.register.specs.declared.Register.the-variants as register
 use Rattle.register.specs.declared.Found.{Found}
@@ -35,17 +36,12 @@ use Rattle.act.specs.Acts.{actOf, fresh, writes}
 use Rattle.stored.specs.Stored.{counts, storedAfter}
 use Rattle.fan.specs.Fans.{fanTarget, settingOf}
 use Rattle.output.specs.Outputs.{bitAt, packed}
-use Rattle.drive.proofs.RampLaws.{by-cases}
 use Rattle.history.specs.Events.{History, act, powered, address, stored, reply, accepted}
 use Rattle.history.specs.Duties.{setting, Spin, givenAfter, sinceAfter, spinAfter, beatWith, priorSpin, spin, duty}
 use Rattle.history.specs.Shows.{status, valueOf, value, foundValue}
 use Rattle.history.specs.Bounds.{Bounds}
 use Rattle.history.proofs.HistoryLaws.{refused-stored, accepted-stored}
 use Rattle.history.proofs.ReadbackLaws.{passed}
-
-pub either : (P : ℕ → Type 0) (b : Bool) {x y : ℕ} → P x → P y → P (cond b x y)
-either P true p q = p
-either P false p q = q
 
 -- ---- stored bytes
 

@@ -7,6 +7,7 @@ use native.Mathlib.Omega.{arith}
 use lib.Dec.{eqb}
 use lib.ListN.{getD, List·getD-eq-default}
 use borrow.Author.Tests.{eqb-true, eqb-false, ne-eqb, not-true}
+use Rattle.num.proofs.BoolLaws.{by-cases}
 use Rattle.event.specs.Answers.{numberOf, dataOf}
 use Rattle.event.specs.declared.Answer.{Answer}
 use Rattle.event.specs.declared.Answer.the-variants.{Done, NoPower, OtherAddress, NoSuchPart, NoSuchRegister, ReadOnly, OutOfRange, BadRangeCode, OddLocal, NotMonitoring}
@@ -15,7 +16,6 @@ use Rattle.request.specs.Replies.{noPower, otherAddress, noPart, noRegister, re
 use Rattle.keeper.specs.Keeping.{answerOf}
 use Rattle.keeper.specs.declared.Keeper.{Keeper}
 use Rattle.keeper.specs.declared.Keeper.the-variants.{Off, On}
-use Rattle.drive.proofs.RampLaws.{by-cases}
 use Rattle.history.specs.Demand1.{isOn, ownAddress, isMonitoring, Applies, one, two, three, four, five, six, seven, eight, nine, number, Demand1}
 
 -- ---- the reply

@@ -6,10 +6,11 @@ use mathlib.Core.List.{List, _++_}
 use native.Mathlib.Omega.{arith}
 use lib.Dec.{ltb, eqb}
 use borrow.Author.Tests.{eqb-true, eqb-false}
+use Rattle.num.proofs.BoolLaws.{by-cases}
 use Rattle.part.specs.declared.FanId.{FanId}
 use Rattle.event.specs.declared.Event.{Event}
 use Rattle.drive.specs.Ramp.{outside, nearerOf}
-use Rattle.drive.proofs.RampLaws.{still-distance, nearer-below, nearer-above, by-cases}
+use Rattle.drive.proofs.RampLaws.{still-distance, nearer-below, nearer-above}
 use Rattle.drive.proofs.DriveLaws.{wanted}
 use Rattle.history.specs.Events.{History}
 use Rattle.history.specs.Duties.{setting, spin, duty, spinLeft, periodsIn}

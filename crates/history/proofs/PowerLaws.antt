@@ -1,8 +1,9 @@
 -- What holds of an event by its kind, and of a list before the first power-on. Assumes nothing.
 use Prim.Native.Nat.{ℕ}
 use mathlib.Core.Path.{_≡_, refl, sym, ap, _∙_}
-use mathlib.Core.Bool.{Bool, true, false, cond, _&&_, _||_, true≢false, or-true, and-true, and-false}
+use mathlib.Core.Bool.{Bool, true, false, cond, _&&_, true≢false, or-true, and-true, and-false}
 use mathlib.Core.List.{[], _∷_}
+use Rattle.num.proofs.BoolLaws.{by-cases, neither}
 use Rattle.num.specs.Bits.{bitOf}
 use Rattle.part.specs.declared.ChannelId.{ChannelId}
 use Rattle.part.specs.declared.FanId.{FanId}
@@ -21,7 +22,6 @@ use Rattle.channel.specs.Channels.{readingAfter, latchAfter, flagAfter, overAft
 use Rattle.fan.specs.Fans.{fanAfter, fanIn}
 use Rattle.chip.specs.Chips.{addressAfter, frontAfter, chipWith, chipUnder, chipAfter}
 use Rattle.chip.specs.declared.Chip.{Chip}
-use Rattle.drive.proofs.RampLaws.{by-cases}
 use Rattle.history.specs.Events.{History, act, powersUp, powered, address, stored, reply, accepted}
 use Rattle.history.specs.Temperatures.{latch}
 use Rattle.history.specs.Duties.{spin, still}
@@ -113,16 +113,12 @@ accepted-address e h go = rw (kind-is kind.Power e, up-is e h, go, and-true) (wh
 
 -- ---- before the first power-on nothing was accepted
 
-either : (a b : Bool) → (a || b) ≡ false → (a ≡ false) × (b ≡ false)
-either true b q = absurd (true≢false q)
-either false b q = (refl, q)
-
 -- what holds of the empty list, and passes over refused events, holds before power
 pub quiet : (P : History → Type 0) → P [] → ((e : Event) (h : History) → accepted e h ≡ false → P h → P (e ∷ h)) → (h : History) → powered h ≡ false → P h
 unfolding powered
 quiet P base step [] off = base
 quiet P base step (e ∷ h) off =
-    let q = either (powersUp e) (powered h) off in
+    let q = neither (powersUp e) (powered h) off in
     step e h (off-accepted e h (q .1) ∙ q .0) (quiet P base step h (q .1))
 
 pub off-stored : (a : ℕ) (h : History) → powered h ≡ false → stored a h ≡ 0

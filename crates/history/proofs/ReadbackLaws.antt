@@ -7,6 +7,7 @@ use native.Mathlib.Omega.{arith}
 use lib.Dec.{ltb, eqb}
 use lib.IntN.{ℤ, pos, negsuc}
 use borrow.Author.Tests.{eqb-false, ltb-true}
+use Rattle.num.proofs.BoolLaws.{by-cases}
 use Rattle.num.specs.Bits.{bitOf}
 use Rattle.num.specs.Range.{is, eighthsOf, held}
 use Rattle.part.specs.Parts.{channelOf}
@@ -26,7 +27,6 @@ use Rattle.reading.proofs.Laws.{lossless}
 use Rattle.register.specs.Table.{registerAt}
 use Rattle.act.specs.Acts.{actOf, fresh, samples}
 use Rattle.channel.specs.Channels.{readingAfter}
-use Rattle.drive.proofs.RampLaws.{by-cases}
 use Rattle.history.specs.Events.{History, act, powered, address, stored, reply, accepted}
 use Rattle.history.specs.Temperatures.{reading}
 use Rattle.history.specs.Shows.{value, valueOf}

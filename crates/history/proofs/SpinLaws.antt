@@ -6,6 +6,7 @@ use mathlib.Core.List.{[], _∷_}
 use native.Mathlib.Omega.{arith}
 use lib.Dec.{eqb}
 use borrow.Author.Tests.{eqb-true}
+use Rattle.num.proofs.BoolLaws.{by-cases}
 use Rattle.part.specs.declared.FanId.{FanId}
 use Rattle.part.specs.declared.FanId.the-variants.{One, Two}
 use Rattle.event.specs.declared.Event.{Event}
@@ -16,7 +17,6 @@ use Rattle.drive.specs.declared.Drive.{Drive}
 use Rattle.drive.specs.Drive.{startsOf, leftOf, keptOf, drivenOf}
 use Rattle.drive.proofs.DriveLaws.{spin-up-pos, wanted, full, duty-zero, zero-duty, plain}
 use Rattle.fan.specs.Fans.{settingOf}
-use Rattle.drive.proofs.RampLaws.{by-cases}
 use Rattle.history.specs.Events.{History, stored, accepted, settings}
 use Rattle.history.specs.Temperatures.{thermAsserted, channel, channels}
 use Rattle.history.specs.Duties.{setting, Spin, left, spinAt, givenAfter, sinceAfter, spinAfter, priorSpin, beatWith, spin}

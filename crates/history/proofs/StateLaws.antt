@@ -6,6 +6,7 @@ use mathlib.Core.List.{_∷_}
 use native.Mathlib.Omega.{arith}
 use lib.Dec.{eqb}
 use borrow.Author.Tests.{eqb-true}
+use Rattle.num.proofs.BoolLaws.{by-cases}
 use Rattle.part.specs.declared.ChannelId.{ChannelId}
 use Rattle.part.specs.declared.FanId.{FanId}
 use Rattle.part.specs.declared.FanId.the-variants.{One, Two}
@@ -24,7 +25,6 @@ use Rattle.fan.specs.declared.Fan.{Fan}
 use Rattle.chip.specs.Chips.{frontAfter, chipWith, chipUnder, chipAfter}
 use Rattle.chip.specs.declared.Front.{Front}
 use Rattle.chip.specs.declared.Chip.{Chip}
-use Rattle.drive.proofs.RampLaws.{by-cases}
 use Rattle.history.specs.Events.{History, act, address, stored, accepted, pointer, pinLow, diodeError1, diodeError2, pulled, limits, fanBytes, settings}
 use Rattle.history.specs.Temperatures.{reading, latch, flag, highBit, lowBit, thermBit, channel, channels}
 use Rattle.history.specs.Duties.{setting, Spin, spin, priorSpin, judgesWith, failsWith, tachOn, judged, failed, failures, atAlarm, alarmBit, faultBit}

@@ -1,12 +1,13 @@
 -- Through a stretch: the spin-up falls by the clock events, and the duty nears its target by the periods. Assumes nothing.
 use Prim.Native.Nat.{ℕ, _-_, _*_, _<_}
 use mathlib.Core.Path.{_≡_, refl, sym, ap, _∙_, subst}
-use mathlib.Core.Bool.{Bool, true, false, cond, _&&_, _||_, true≢false}
+use mathlib.Core.Bool.{true, false, cond, _&&_, _||_, true≢false}
 use mathlib.Core.List.{List, [], _∷_, _++_, append-assoc}
 use native.Mathlib.Nat.{add-comm, suc-mul}
 use native.Mathlib.Omega.{arith}
 use lib.Dec.{eqb}
 use borrow.Author.Tests.{lt-ltb, eqb-true, eqb-false}
+use Rattle.num.proofs.BoolLaws.{by-cases, neither}
 use Rattle.part.specs.declared.FanId.{FanId}
 use Rattle.event.specs.Kinds.{isKind}
 use Rattle.event.specs.declared.Event.{Event}
@@ -16,7 +17,7 @@ use Rattle.stored.specs.Stored.{storedAfter}
 use Rattle.drive.specs.declared.Drive.{Drive}
 use Rattle.drive.specs.Ramp.{nearerOf}
 use Rattle.drive.specs.Drive.{drivenOf}
-use Rattle.drive.proofs.RampLaws.{nearer-is, nearer-sum, by-cases}
+use Rattle.drive.proofs.RampLaws.{nearer-is, nearer-sum}
 use Rattle.drive.proofs.DriveLaws.{wanted, counted, ramped-step}
 use Rattle.fan.specs.Fans.{settingOf}
 use Rattle.history.specs.Events.{History, act, stored, accepted, settings}
@@ -24,14 +25,6 @@ use Rattle.history.specs.Duties.{setting, Spin, left, priorSpin, beatWit
 use Rattle.history.specs.Demand3.{filtered, rate, overridden, Settled, disturbs, Stretch}
 use Rattle.history.proofs.HistoryLaws.{kind-is, refused-stored, refused-spin, accepted-stored}
 use Rattle.history.proofs.SpinLaws.{override-is, driveOf, sound, spun, spin-step}
-
-or-left : (a b : Bool) → (a || b) ≡ false → a ≡ false
-or-left true b e = e
-or-left false b e = refl
-
-or-right : (a b : Bool) → (a || b) ≡ false → b ≡ false
-or-right true b e = absurd (true≢false e)
-or-right false b e = e
 
 -- the filter and the ramp rate are by the byte at 0x23
 module _ (f : FanId) (g h : History) (same : stored 0x23 g ≡ stored 0x23 h) where
@@ -48,13 +41,13 @@ module _ (f : FanId) (g h : History) (same : stored 0x23 g ≡ stored 0x23 h) wh
 module _ (f : FanId) (e : Event) (h : History) (calm : disturbs f e h ≡ false) where
   unwritten : accepted e h ≡ true → (isKind kind.Write e || isKind kind.Power e) ≡ false
   unfolding disturbs
-  unwritten r = simp r at (or-left (accepted e h && (isKind kind.Write e || isKind kind.Power e)) (failed f e h) calm)
+  unwritten r = simp r at (neither (accepted e h && (isKind kind.Write e || isKind kind.Power e)) (failed f e h) calm .0)
 
   no-write : accepted e h ≡ true → isA kind.Write (act e) ≡ false
-  no-write r = kind-is kind.Write e ∙ or-left _ (isKind kind.Power e) (unwritten r)
+  no-write r = kind-is kind.Write e ∙ neither (isKind kind.Write e) (isKind kind.Power e) (unwritten r) .0
 
   no-power : accepted e h ≡ true → isA kind.Power (act e) ≡ false
-  no-power r = kind-is kind.Power e ∙ or-right (isKind kind.Write e) _ (unwritten r)
+  no-power r = kind-is kind.Power e ∙ neither (isKind kind.Write e) (isKind kind.Power e) (unwritten r) .1
 
   filter-byte : stored 0x23 (e ∷ h) ≡ stored 0x23 h
   filter-byte =
@@ -69,7 +62,7 @@ module _ (f : FanId) (e : Event) (h : History) (calm : disturbs f e h ≡ false)
   unfolding disturbs failed
   no-failure r =
       subst (λ (w : Spin). failsWith f e h w ≡ false) (same-prior r)
-      (simp r at (or-right (accepted e h && (isKind kind.Write e || isKind kind.Power e)) (failed f e h) calm))
+      (simp r at (neither (accepted e h && (isKind kind.Write e || isKind kind.Power e)) (failed f e h) calm .1))
 
   stepped : accepted e h ≡ true → driveOf (spin f (e ∷ h)) ≡ drivenOf (setting f (e ∷ h)) (beatWith f e h (spin f h)) (driveOf (spin f h))
   stepped r =

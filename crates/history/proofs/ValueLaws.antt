@@ -1,12 +1,13 @@
 -- The chip that the rules describe shows what the rules say: registers and outputs. Assumes nothing.
 use Prim.Native.Nat.{ℕ, min}
 use mathlib.Core.Path.{_≡_, refl, sym, ap, _∙_}
-use mathlib.Core.Bool.{Bool, true, false, _&&_, true≢false}
+use mathlib.Core.Bool.{true, false, true≢false}
 use mathlib.Core.List.{List, [], _∷_}
 use native.Mathlib.Omega.{arith}
 use lib.Bits.{bitAnd, and-zero-r, or-zero-r}
 use lib.Dec.{eqb, leb}
 use borrow.Author.Tests.{eq-eqb, ne-eqb, leb-true, leb-false}
+use Rattle.num.proofs.BoolLaws.{by-cases, both}
 use Rattle.num.specs.Bits.{mergedOf}
 use Rattle.part.specs.declared.FanId.the-variants.{One, Two}
 use Rattle.event.specs.Kinds.{isKind}
@@ -18,7 +19,6 @@ use Rattle.register.specs.Table.{Row, says, table, registerAt, maskAt, resetAt}
 use Rattle.register.specs.declared.Found.the-variants.{At, Nowhere}
 use Rattle.stored.specs.Stored.{storedAfter}
 use Rattle.output.specs.Outputs as output
-use Rattle.drive.proofs.RampLaws.{by-cases}
 use Rattle.history.specs.Events.{History, act, powersUp, powered, stored, accepted, limits, fanBytes, settings}
 use Rattle.history.specs.Temperatures.{channel, channels, thermAsserted}
 use Rattle.history.specs.Duties.{duty, failures}
@@ -31,11 +31,7 @@ use Rattle.history.proofs.StateLaws.{frontOf, fanOf, chipOf}
 
 -- a power-on starts afresh
 up-fresh : (e : Event) → powersUp e ≡ true → fresh (act e) ≡ true
-up-fresh e up = rw (kind-is kind.Power e, both (isKind kind.Power e) (accepts (replyOf false 0 false e)) up)
-  where
-    both : (a b : Bool) → (a && b) ≡ true → a ≡ true
-    both true b q = refl
-    both false b q = q
+up-fresh e up = rw (kind-is kind.Power e, both (isKind kind.Power e) (accepts (replyOf false 0 false e)) up .0)
 
 -- a byte that every event keeps, and that a start afresh gives, is that byte from power on
 module _ (a b : ℕ) (afresh : (e : Event) (was : ℕ) → fresh (act e) ≡ true → storedAfter a (act e) was ≡ b) (kept : (e : Event) → storedAfter a (act e) b ≡ b) where

@@ -35,8 +35,6 @@ impl Keeper {
     }
 }
 
-// ---- what power starts from
-
 // ---- one event
 
 // Only a read returns data.

@@ -63,6 +63,9 @@ report-is text = played-is (length text) text 0 1 []
 
 -- ---- a text that fits is put
 
+pub clash : {a : Answer} {e : ℕ} → Refused a ≡ End e → ⊥
+clash {a} {e} q = let z : _≡_ {A = ℕ} 0 1 = cc in omega arith
+
 module _ (d text : List ℕ) (at : ℕ) (room : at + length text ≤ length d) where
   put-is : putOf d at text ≡ End (at + length text)
   unfolding putOf
@@ -76,10 +79,7 @@ module _ (d text : List ℕ) (at : ℕ) (room : at + length text ≤ length d) w
   held-end q = q ∙ rw (le-leb (at + length text) (length d) room)
 
   pub never-refused : {p : Put} {a : Answer} → p ≡ putOf d at text → p ≡ Refused a → ⊥
-  never-refused {p} {a} q r = let z : _≡_ {A = ℕ} 0 1 = clash (sym r ∙ q ∙ put-is) in omega arith
-    where
-      clash : {a : Answer} {e : ℕ} → Refused a ≡ End e → _≡_ {A = ℕ} 0 1
-      clash q = cc
+  never-refused q r = clash (sym r ∙ q ∙ put-is)
 
 -- ---- the answer
 

@@ -7,6 +7,7 @@ use native.Mathlib.Omega.{arith}
 use native.Mathlib.Nat.{sub-zero}
 use lib.Dec.{leb}
 use lib.ListN.{length, length-append}
+use Rattle.num.proofs.BoolLaws.{by-cases}
 use Rattle.num.specs.Bits.{flagOf}
 use Rattle.event.specs.Kinds.{isKind}
 use Rattle.event.specs.Answers.{numberOf, dataOf}
@@ -23,7 +24,6 @@ use Rattle.trace.specs.declared.Reading.the-variants as reading
 use Rattle.trace.proofs.Onward.{onward, wrong-place}
 use Rattle.report.specs.Report.{entryText}
 use Rattle.measure.proofs.Laws.{reply-length-as, pin-length, duty-length, entry-length, malformed-length}
-use Rattle.drive.proofs.RampLaws.{by-cases}
 use Rattle.history.specs.Events.{History, accepted, reply, pointer}
 use Rattle.history.specs.Temperatures.{thermAsserted}
 use Rattle.history.specs.Shows.{answer, intAsserted, faultAsserted, shown}

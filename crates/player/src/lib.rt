@@ -36,7 +36,7 @@ pub fn step(k: Keeper, e: Event) -> Stepped
 // How long the report of a text is.
 fn report_len(text: &[u8]) -> usize
     requires { ⌜ length (now text) ≤ 65536 ⌝ }
-    ensures { λ r. ⌜ (r ≡ length (playedOf (now (text .entry)))) × (r ≤ 17 * length (now (text .entry)) + 26) ⌝ }
+    ensures { λ r. ⌜ r ≡ length (playedOf (now (text .entry))) ⌝ }
 {
     let mut k = Keeper::off();
     let mut at: usize = 0;

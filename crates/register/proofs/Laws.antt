@@ -11,6 +11,7 @@ use lib.ListN.{getD}
 use mir.Syntax.{w32}
 use mir.Val.{toZ, ofZ, SFits}
 use mir.ValLaws.{toZ-ofZ}
+use Rattle.num.proofs.BoolLaws.{either, both}
 use Rattle.num.specs.Range.{belowOf}
 use Rattle.num.specs.declared.Ranged.{Ranged}
 use Rattle.num.specs.declared.Ranged.the-variants.{In, Out}
@@ -24,17 +25,6 @@ use Rattle.register.specs.declared.Found.the-variants.{At, Nowhere}
 every : (Row → Bool) → List Row → Bool
 every test [] = true
 every test (r ∷ rs) = test r && every test rs
-
-pub both : (a b : Bool) → (a && b) ≡ true → (a ≡ true) × (b ≡ true)
-both true b h = (refl, h)
-both false b h = let z : _≡_ {A = Bool} true false = cc in absurd (never z)
-  where
-    never : _≡_ {A = Bool} true false → ⊥
-    never e = let z : _≡_ {A = ℕ} 0 1 = cc in omega arith
-
-either : {A : Type 0} (P : A → Type 0) (t : Bool) {x y : A} → P x → P y → P (cond t x y)
-either P true p q = p
-either P false p q = q
 
 -- what passes at each row, and at none, holds of what the table says
 of-says : {A : Type 0} (P : A → Type 0) (f : Row → A) (none : A) (test : Row → Bool) → ((r : Row) → test r ≡ true → P (f r)) → P none

@@ -9,34 +9,20 @@ use lib.Dec.{ltb}
 use lib.ListN.{length}
 use lib.Seq.{sets, length-sets, length-take-le}
 use Rattle.io.specs.Counts.{Counts}
-use borrow.Author.Tests.{ltb-false, le-leb}
+use borrow.Author.Tests.{ltb-false}
 use Rattle.event.specs.declared.Answer.{Answer}
 use Rattle.buffer.specs.Put.{putOf, heldOf}
 use Rattle.buffer.specs.declared.Put.{Put}
 use Rattle.buffer.specs.declared.Put.the-variants.{End, Refused}
 use Rattle.report.specs.Report.{answerText, tooLongText}
 use Rattle.player.proofs.SizeLaws.{bounded}
+use Rattle.player.proofs.AnswerLaws.{clash, put-end, held-end, never-refused}
 use Rattle.player.specs.Report.{reportOf, replayAnswer, replayBuffer, printedOf}
 
-clash : {a : Answer} {e : ℕ} → Refused a ≡ End e → ⊥
-clash {a} {e} q = let z : _≡_ {A = ℕ} 0 1 = cc in omega arith
-
--- ---- a text that has room is put
-
+-- a text that has room from the start of the buffer on
 module _ (t d : List ℕ) (fits : 0 + length t ≤ length d) where
-  put-is : putOf d 0 t ≡ End (length t)
-  unfolding putOf
-  put-is = rw (le-leb (0 + length t) (length d) fits) (ap End (zero-add (length t)))
-
-  put-held : heldOf d 0 t ≡ sets d 0 t
-  unfolding heldOf
-  put-held = rw (le-leb (0 + length t) (length d) fits)
-
   end-of : {p : Put} {e : ℕ} → p ≡ putOf d 0 t → p ≡ End e → e ≡ length t
-  end-of {p} {e} q r = let s : End e ≡ End (length t) = sym r ∙ q ∙ put-is in cc
-
-  never-of : {p : Put} {a : Answer} → p ≡ putOf d 0 t → p ≡ Refused a → ⊥
-  never-of q r = clash (sym r ∙ q ∙ put-is)
+  end-of q r = put-end d t 0 fits q r ∙ zero-add (length t)
 
 -- ---- the ending of a text that is too long
 
@@ -52,10 +38,10 @@ module _ (d : List ℕ) (room : 1114138 ≤ length d) where
   ending-end q r = end-of tooLongText d too-long-fits q r
 
   pub ending-held : {d′ : List ℕ} → d′ ≡ heldOf d 0 tooLongText → d′ ≡ sets d 0 tooLongText
-  ending-held q = q ∙ put-held tooLongText d too-long-fits
+  ending-held q = held-end d tooLongText 0 too-long-fits q
 
   pub ending-never : {p : Put} {a : Answer} → p ≡ putOf d 0 tooLongText → p ≡ Refused a → ⊥
-  ending-never q r = never-of tooLongText d too-long-fits q r
+  ending-never q r = never-refused d tooLongText 0 too-long-fits q r
 
 -- ---- either
 
@@ -74,7 +60,7 @@ module _ (text d : List ℕ) (room : 1114138 ≤ length d) where
 
     held-short : replayBuffer text d ≡ sets d 0 (printedOf text)
     unfolding replayBuffer
-    held-short = rw (short, printed-short) (put-held (reportOf text) d fits)
+    held-short = rw (short, printed-short) (held-end d (reportOf text) 0 fits refl)
 
   module _ (long : ltb 65536 (length text) ≡ true) where
     printed-long : printedOf text ≡ tooLongText
@@ -118,7 +104,7 @@ module _ (text d : List ℕ) (room : 1114138 ≤ length d) where
   module _ {p : Put} {a : Answer} (q : p ≡ replayAnswer text d) (r : p ≡ Refused a) where
     long-then : (b : Bool) → ltb 65536 (length text) ≡ b → ltb 65536 (length text) ≡ true
     long-then true h = h
-    long-then false h = absurd (never-of (reportOf text) d (fits h) (q ∙ answer-short h) r)
+    long-then false h = absurd (never-refused d (reportOf text) 0 (fits h) (q ∙ answer-short h) r)
 
     abbrev long : ltb 65536 (length text) ≡ true
     long = long-then (ltb 65536 (length text)) refl

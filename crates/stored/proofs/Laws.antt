@@ -1,11 +1,12 @@
 -- A stored byte by the kind of the event. Assumes nothing.
 use Prim.Native.Nat.{ℕ}
-use mathlib.Core.Bool.{Bool, true, false, not, _||_, and-false}
+use mathlib.Core.Bool.{Bool, true, false, _||_, and-false}
+use borrow.Author.Tests.{not-true}
+use Rattle.num.proofs.BoolLaws.{neither}
 use Rattle.event.specs.declared.Kind.the-variants as kind
 use mathlib.Core.Path.{_≡_, sym, ap, _∙_}
 use Rattle.num.specs.Bits.{mergedOf}
 use Rattle.register.specs.Table.{maskAt, resetAt}
-use Rattle.act.proofs.Laws.{neither}
 use Rattle.act.specs.Acts.{isA, fresh, writes}
 use Rattle.act.specs.declared.Act.{Act}
 use Rattle.stored.specs.Stored.{counts, storedAfter, idle, limitsAfter, fanBytesAfter, settingsAfter}
@@ -38,8 +39,8 @@ module _ (a : ℕ) (r : Act) (was : ℕ) {f : Bool} (ef : f ≡ fresh r) where
 module _ (r : Act) (nothing : idle r ≡ true) where
   quiet : (fresh r ≡ false) × (isA kind.Write r ≡ false) × (isA kind.Tach r ≡ false)
   quiet =
-      let a = neither (fresh r) (isA kind.Write r || isA kind.Tach r) nothing in
-      let b = neither (isA kind.Write r) (isA kind.Tach r) (ap not (a .1)) in
+      let a = neither (fresh r) (isA kind.Write r || isA kind.Tach r) (not-true (fresh r || (isA kind.Write r || isA kind.Tach r)) nothing) in
+      let b = neither (isA kind.Write r) (isA kind.Tach r) (a .1) in
       (a .0, b .0, b .1)
 
   same-byte : (a was : ℕ) → storedAfter a r was ≡ was

@@ -61,10 +61,10 @@ add-result : tie.Need-add-result Inv-loop μ-loop
 add-result c = search needs
 
 returns : tie.Need-returns Inv-loop μ-loop
-returns c = (search len-wrong, omega arith)
+returns c = search len-wrong
 
 returns-2 : tie.Need-returns-2 Inv-loop μ-loop
-returns-2 c = (search len-end, omega arith)
+returns-2 c = search len-end
 
 pub report-len-spec : {M : Type 1} → statement M
 report-len-spec =
