@@ -14,9 +14,9 @@ use mir.Syntax.{w32, w64}
 use mir.Val.{Fits, SFits, toZ, ofZ}
 use mir.ValLaws.{toZ-ofZ}
 use borrow.Author.Tests.{le-leb, lt-leb, leb-true, leb-false}
-use Rattle.num.specs.declared.Split.{Split}
-use Rattle.num.specs.declared.Split.the-variants.{Nat, Neg}
-use Rattle.num.specs.Range.{splitOf}
+use Rattle.integer.specs.declared.Split.{Split}
+use Rattle.integer.specs.declared.Split.the-variants.{Nat, Neg}
+use Rattle.integer.specs.Range.{splitOf}
 use Rattle.event.specs.declared.Answer.the-variants.{WrongSize}
 use Rattle.decimal.specs.Decimal.{decimalOf, textOf}
 use Rattle.decimal.proofs.Laws.{decimal-small, decimal-large, small-length, decimal-length, decimal-bound}

@@ -1,7 +1,7 @@
 // Text into a lent buffer, from an index on: bytes and decimals.
 // What would stand past the end is dropped; who must not lose any asks `fits` first.
 use event::Answer;
-use num::Split;
+use integer::Split;
 ghost use mathlib.Core.Path.{_≡_};
 ghost use Prim.Native.Nat.{_+_};
 ghost use mathlib.Core.List.{_∷_};
@@ -78,7 +78,7 @@ pub fn put_signed(v: i32, buf: &mut [u8], at: usize) -> usize
     ensures { λ r. ⌜ r ≡ length (textOf v) ⌝ }
     ensures { λ _. ⌜ now (buf .exit) ≡ sets (now (buf .entry)) at (textOf v) ⌝ }
 {
-    match num::by_sign(v) {
+    match integer::by_sign(v) {
         Split::Nat(n) => put_decimal(n, buf, at),
         Split::Neg(n) => put_negative(n + 1, buf, at),
     }

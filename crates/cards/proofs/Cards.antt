@@ -5,7 +5,7 @@ use mathlib.Core.Bool.{Bool, true, false, cond}
 use native.Mathlib.Omega.{arith}
 use borrow.Author.Tests.{le-ltb}
 use lib.Dec.{ltb}
-use Rattle.num.specs.Range.{eighthsOf}
+use Rattle.integer.specs.Range.{eighthsOf}
 use Rattle.reading.specs.Limits.{latchedOf}
 use Rattle.demand.specs.Demand.{slopeOf, demandOf}
 use Rattle.drive.specs.Ramp.{nearerOf, ramped}

@@ -5,8 +5,8 @@ use mathlib.Core.Bool.{Bool, true, false}
 use mathlib.Core.List.{List, [], _∷_}
 use lib.IntN.{ℤ, pos, negsuc}
 use lib.ListN.{replicate}
-use Rattle.num.specs.Range.{eighthsOf, held}
-use Rattle.num.specs.declared.Ranged.the-variants.{In}
+use Rattle.integer.specs.Range.{eighthsOf, held}
+use Rattle.integer.specs.declared.Ranged.the-variants.{In}
 use Rattle.reading.specs.Reading.{byteOf, remainderOf}
 use Rattle.reading.specs.Limits.{latchedOf, runningOf}
 use Rattle.demand.specs.Demand.{demandOf}

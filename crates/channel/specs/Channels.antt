@@ -8,29 +8,29 @@ use Rattle.part.specs.declared.FanId.the-variants.{One, Two}
 use Rattle.event.specs.declared.Kind.the-variants as kind
 use Rattle.reading.specs.Limits.{latchedOf, runningOf, overOf, underOf}
 use Rattle.demand.specs.Demand.{tminOf}
-use Rattle.act.specs.declared.Act.{Act}
-use Rattle.act.specs.Acts.{isA, samples, fresh, reads, markAfter}
+use Rattle.input.specs.declared.Input.{Input}
+use Rattle.input.specs.Inputs.{isA, samples, restarts, reads, bitAfter}
 use Rattle.stored.specs.Stored.{statusAt, channelEnabled}
-use Rattle.stored.specs.declared.Limits.{Limits}
-use Rattle.stored.specs.declared.Settings.{Settings}
+use Rattle.stored.specs.declared.ChannelRegisters.{ChannelRegisters}
+use Rattle.stored.specs.declared.Registers.{Registers}
 use Rattle.channel.specs.declared.Channel.{Channel}
 use Rattle.channel.specs.declared.Channels.{Channels}
 
 -- the reading that a sample makes
-abbrev pub measuredOf : Act → ℕ
+abbrev pub measuredOf : Input → ℕ
 measuredOf r = r .reading
 
 -- 1: the last reading; 0, held as 1024, after power or reset
-unfoldable pub readingAfter : ChannelId → Act → ℕ → ℕ
-readingAfter c r was = cond (fresh r) 1024 (cond (samples c r) (measuredOf r) was)
+unfoldable pub readingAfter : ChannelId → Input → ℕ → ℕ
+readingAfter c r was = cond (restarts r) 1024 (cond (samples c r) (measuredOf r) was)
 
 -- 2: the latch, by the channel's THERM limit
-unfoldable pub latchAfter : ChannelId → (therm : ℕ) → Act → Bool → Bool
-latchAfter c therm r was = cond (fresh r) false (cond (samples c r) (latchedOf was therm (measuredOf r)) was)
+unfoldable pub latchAfter : ChannelId → (therm : ℕ) → Input → Bool → Bool
+latchAfter c therm r was = cond (restarts r) false (cond (samples c r) (latchedOf was therm (measuredOf r)) was)
 
 -- duty 1: the run flag, by the channel's Tmin
-unfoldable pub flagAfter : ChannelId → (control : ℕ) → Act → Bool → Bool
-flagAfter c control r was = cond (fresh r) false (cond (samples c r) (runningOf was (tminOf control) (measuredOf r)) was)
+unfoldable pub flagAfter : ChannelId → (control : ℕ) → Input → Bool → Bool
+flagAfter c control r was = cond (restarts r) false (cond (samples c r) (runningOf was (tminOf control) (measuredOf r)) was)
 
 -- 4: the status registers, named by their fan, that hold a channel's high and low bits, and its THERM bit
 abbrev pub limitBitsIn : ChannelId → FanId
@@ -44,38 +44,38 @@ thermBitIn Remote1 = One
 thermBitIn Remote2 = Two
 
 -- 5, 7: what clears a bit: a start afresh, a read of its register, the channel's enable bit being 0
-abbrev pub clearsBit : FanId → (enabled : Bool) (pointer : ℕ) → Act → Bool
-clearsBit f enabled pointer r = fresh r || (reads (statusAt f) pointer r || not enabled)
+abbrev pub clearsBit : FanId → (enabled : Bool) (pointer : ℕ) → Input → Bool
+clearsBit f enabled pointer r = restarts r || (reads (statusAt f) pointer r || not enabled)
 
 -- 3: the high and low bits
-unfoldable pub overAfter : ChannelId → (high : ℕ) (enabled : Bool) (pointer : ℕ) → Act → Bool → Bool
-overAfter c high enabled pointer r was =
-    markAfter (samples c r && (enabled && overOf high (measuredOf r))) (clearsBit (limitBitsIn c) enabled pointer r) was
+unfoldable pub highBitAfter : ChannelId → (high : ℕ) (enabled : Bool) (pointer : ℕ) → Input → Bool → Bool
+highBitAfter c high enabled pointer r was =
+    bitAfter (samples c r && (enabled && overOf high (measuredOf r))) (clearsBit (limitBitsIn c) enabled pointer r) was
 
-unfoldable pub underAfter : ChannelId → (low : ℕ) (enabled : Bool) (pointer : ℕ) → Act → Bool → Bool
-underAfter c low enabled pointer r was =
-    markAfter (samples c r && (enabled && underOf low (measuredOf r))) (clearsBit (limitBitsIn c) enabled pointer r) was
+unfoldable pub lowBitAfter : ChannelId → (low : ℕ) (enabled : Bool) (pointer : ℕ) → Input → Bool → Bool
+lowBitAfter c low enabled pointer r was =
+    bitAfter (samples c r && (enabled && underOf low (measuredOf r))) (clearsBit (limitBitsIn c) enabled pointer r) was
 
 -- 3: the THERM bit: a latch going from off to on
-unfoldable pub hotAfter : ChannelId → (enabled before after : Bool) (pointer : ℕ) → Act → Bool → Bool
-hotAfter c enabled before after pointer r was =
-    markAfter (samples c r && (enabled && (not before && after))) (clearsBit (thermBitIn c) enabled pointer r) was
+unfoldable pub thermBitAfter : ChannelId → (enabled before after : Bool) (pointer : ℕ) → Input → Bool → Bool
+thermBitAfter c enabled before after pointer r was =
+    bitAfter (samples c r && (enabled && (not before && after))) (clearsBit (thermBitIn c) enabled pointer r) was
 
 -- the channel: its limits and enable bit as they stand after the event, the pointer as it stood before it
-unfoldable pub channelAfter : ChannelId → Limits → (enabled : Bool) (pointer : ℕ) → Act → Channel → Channel
+unfoldable pub channelAfter : ChannelId → ChannelRegisters → (enabled : Bool) (pointer : ℕ) → Input → Channel → Channel
 channelAfter c l enabled pointer r was =
     record {
       reading = readingAfter c r (was .reading);
       latch = latchAfter c (l .therm) r (was .latch);
       flag = flagAfter c (l .control) r (was .flag);
-      over = overAfter c (l .high) enabled pointer r (was .over);
-      under = underAfter c (l .low) enabled pointer r (was .under);
-      hot = hotAfter c enabled (was .latch) (latchAfter c (l .therm) r (was .latch)) pointer r (was .hot);
+      over = highBitAfter c (l .high) enabled pointer r (was .over);
+      under = lowBitAfter c (l .low) enabled pointer r (was .under);
+      hot = thermBitAfter c enabled (was .latch) (latchAfter c (l .therm) r (was .latch)) pointer r (was .hot);
     }
 
 -- an event that is none of the channel's, and what it leaves: the same, which is proved
-abbrev pub passesBy : ChannelId → Act → Bool
-passesBy c r = not (fresh r || (samples c r || isA kind.Read r))
+abbrev pub passesBy : ChannelId → Input → Bool
+passesBy c r = not (restarts r || (samples c r || isA kind.Read r))
 
 abbrev pub channelKept : (enabled : Bool) → Channel → Channel
 channelKept enabled was =
@@ -89,7 +89,7 @@ channelKept enabled was =
     }
 
 -- the three channels, under the registers as they stand after the event
-unfoldable pub channelsAfter : Settings → (pointer : ℕ) → Act → Channels → Channels
+unfoldable pub channelsAfter : Registers → (pointer : ℕ) → Input → Channels → Channels
 channelsAfter s pointer r cs =
     record {
       local = channelAfter Local (s .local) (channelEnabled Local (s .config2)) pointer r (cs .local);

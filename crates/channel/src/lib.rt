@@ -1,12 +1,12 @@
 // The temperature channels, and what an accepted event makes of them: reading, THERM latch, run flag, status bits.
 // One function serves all three.
-mod marks;
+mod status;
 
-use act::Act;
 use event::Kind;
+use input::Input;
 use part::ChannelId;
-use stored::Limits;
-use stored::Settings;
+use stored::ChannelRegisters;
+use stored::Registers;
 ghost use mathlib.Core.Path.{_≡_};
 ghost use Rattle.demand.specs.Demand.{tminOf};
 ghost use Rattle.channel.specs.Channels.{measuredOf, readingAfter, latchAfter, flagAfter, passesBy, channelKept, channelAfter, channelsAfter, thermOf};
@@ -28,30 +28,30 @@ pub struct Channels {
 }
 
 // The reading that a sample makes.
-fn measured(r: Act) -> u16
+fn measured(r: Input) -> u16
     ensures { λ t. ⌜ t ≡ measuredOf r ⌝ }
 {
     r.reading
 }
 
-fn reading_after(c: ChannelId, r: Act, was: u16) -> u16
+fn reading_after(c: ChannelId, r: Input, was: u16) -> u16
     ensures { λ t. ⌜ t ≡ readingAfter c r was ⌝ }
 {
-    if act::is_fresh(r) {
+    if input::is_restart(r) {
         1024
-    } else if act::is_sample(c, r) {
+    } else if input::is_sample(c, r) {
         measured(r)
     } else {
         was
     }
 }
 
-fn latch_after(c: ChannelId, therm: u8, r: Act, was: bool) -> bool
+fn latch_after(c: ChannelId, therm: u8, r: Input, was: bool) -> bool
     ensures { λ b. ⌜ b ≡ latchAfter c therm r was ⌝ }
 {
-    act::flag_after(
-        act::is_fresh(r),
-        act::is_sample(c, r),
+    input::flag_after(
+        input::is_restart(r),
+        input::is_sample(c, r),
         reading::latched(was, therm, measured(r)),
         was,
     )
@@ -63,22 +63,22 @@ fn tmin(control: u8) -> u8
     4 * (control / 8)
 }
 
-fn flag_after(c: ChannelId, control: u8, r: Act, was: bool) -> bool
+fn flag_after(c: ChannelId, control: u8, r: Input, was: bool) -> bool
     ensures { λ b. ⌜ b ≡ flagAfter c control r was ⌝ }
 {
-    act::flag_after(
-        act::is_fresh(r),
-        act::is_sample(c, r),
+    input::flag_after(
+        input::is_restart(r),
+        input::is_sample(c, r),
         reading::running(was, tmin(control), measured(r)),
         was,
     )
 }
 
 // An event that is none of the channel's: no start afresh, no sample of it, no read.
-fn passes_by(c: ChannelId, r: Act) -> bool
+fn passes_by(c: ChannelId, r: Input) -> bool
     ensures { λ b. ⌜ b ≡ passesBy c r ⌝ }
 {
-    !(act::is_fresh(r) | (act::is_sample(c, r) | act::is_a(Kind::Read, r)))
+    !(input::is_restart(r) | (input::is_sample(c, r) | input::is_a(Kind::Read, r)))
 }
 
 // The channel after such an event: at most its enable bit has become 0.
@@ -97,10 +97,10 @@ fn channel_kept(enabled: bool, was: Channel) -> Channel
 
 fn channel_moved(
     c: ChannelId,
-    l: Limits,
+    l: ChannelRegisters,
     enabled: bool,
     pointer: u8,
-    r: Act,
+    r: Input,
     was: Channel,
 ) -> Channel
     ensures { λ b. ⌜ b ≡ channelAfter c l enabled pointer r was ⌝ }
@@ -110,18 +110,18 @@ fn channel_moved(
         reading: reading_after(c, r, was.reading),
         latch,
         flag: flag_after(c, l.control, r, was.flag),
-        over: marks::over_after(c, l.high, enabled, pointer, r, was.over),
-        under: marks::under_after(c, l.low, enabled, pointer, r, was.under),
-        hot: marks::hot_after(c, enabled, was.latch, latch, pointer, r, was.hot),
+        over: status::high_bit_after(c, l.high, enabled, pointer, r, was.over),
+        under: status::low_bit_after(c, l.low, enabled, pointer, r, was.under),
+        hot: status::therm_bit_after(c, enabled, was.latch, latch, pointer, r, was.hot),
     }
 }
 
 fn channel_after(
     c: ChannelId,
-    l: Limits,
+    l: ChannelRegisters,
     enabled: bool,
     pointer: u8,
-    r: Act,
+    r: Input,
     was: Channel,
 ) -> Channel
     ensures { λ b. ⌜ b ≡ channelAfter c l enabled pointer r was ⌝ }
@@ -134,7 +134,7 @@ fn channel_after(
 }
 
 // The three channels, under the registers as they stand after the event; the pointer as it stood before it.
-pub fn channels_after(s: Settings, pointer: u8, r: Act, cs: Channels) -> Channels
+pub fn channels_after(s: Registers, pointer: u8, r: Input, cs: Channels) -> Channels
     ensures { λ b. ⌜ b ≡ channelsAfter s pointer r cs ⌝ }
 {
     let enabled0 = stored::channel_enabled(ChannelId::Local, s.config2);

@@ -13,11 +13,11 @@ use lib.Dec.{ltb, leb}
 use lib.ListN.{length, getD, take, drop, length-append}
 use lib.Seq.{drop-cons, drop-length, take-all}
 use borrow.Author.Tests.{lt-ltb, le-ltb, le-leb, lt-leb, eq-eqb, ne-eqb, ltb-true, ltb-false, leb-true, leb-false}
-use Rattle.num.specs.declared.Signed.{Signed}
-use Rattle.num.specs.declared.Signed.the-variants as signed
-use Rattle.num.specs.declared.Split.{Split}
-use Rattle.num.specs.declared.Split.the-variants.{Nat, Neg}
-use Rattle.num.specs.Range.{signedOf}
+use Rattle.integer.specs.declared.Signed.{Signed}
+use Rattle.integer.specs.declared.Signed.the-variants as signed
+use Rattle.integer.specs.declared.Split.{Split}
+use Rattle.integer.specs.declared.Split.the-variants.{Nat, Neg}
+use Rattle.integer.specs.Range.{signedOf}
 use Rattle.decimal.specs.declared.Magnitude.{Magnitude}
 use Rattle.decimal.specs.declared.Magnitude.the-variants.{Value, Bad}
 use Rattle.decimal.specs.declared.Decimal.{Decimal}

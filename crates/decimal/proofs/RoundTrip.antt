@@ -11,9 +11,9 @@ use lib.Seq.{append-snoc}
 use mir.Syntax.{w32}
 use mir.Val.{SFits}
 use borrow.Author.Tests.{lt-ltb, le-leb, ne-eqb, ltb-true, ltb-false, leb-true, eqb-true, eqb-false}
-use Rattle.num.proofs.BoolLaws.{both}
-use Rattle.num.specs.declared.Signed.the-variants as signed
-use Rattle.num.specs.Range.{signedOf}
+use Rattle.integer.proofs.BoolLaws.{both}
+use Rattle.integer.specs.declared.Signed.the-variants as signed
+use Rattle.integer.specs.Range.{signedOf}
 use Rattle.decimal.specs.declared.Magnitude.{Magnitude}
 use Rattle.decimal.specs.declared.Magnitude.the-variants.{Value, Bad}
 use Rattle.decimal.specs.declared.Decimal.the-variants.{Number}

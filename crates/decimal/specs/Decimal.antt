@@ -4,10 +4,10 @@ use mathlib.Core.List.{List, [], _∷_, _++_}
 use mathlib.Core.Bool.{cond, _&&_}
 use lib.Dec.{ltb, leb, eqb}
 use lib.IntN.{ℤ, pos, negsuc}
-use Rattle.num.specs.declared.Signed.{Signed}
-use Rattle.num.specs.declared.Signed.the-variants as signed
-use Rattle.num.specs.declared.Split.the-variants.{Nat, Neg}
-use Rattle.num.specs.Range.{signedOf}
+use Rattle.integer.specs.declared.Signed.{Signed}
+use Rattle.integer.specs.declared.Signed.the-variants as signed
+use Rattle.integer.specs.declared.Split.the-variants.{Nat, Neg}
+use Rattle.integer.specs.Range.{signedOf}
 use Rattle.decimal.specs.declared.Magnitude.{Magnitude}
 use Rattle.decimal.specs.declared.Magnitude.the-variants.{Value, Bad}
 use Rattle.decimal.specs.declared.Decimal.{Decimal}

@@ -1,9 +1,9 @@
 // Canonical decimals: no plus sign, no leading zero, no -0, within a signed 32-bit number.
 // This crate reads them; `buffer` writes them.
-use num::Signed;
-use num::Split;
+use integer::Signed;
+use integer::Split;
 ghost use mathlib.Core.Path.{_≡_};
-ghost use Rattle.num.specs.Range.{signedOf};
+ghost use Rattle.integer.specs.Range.{signedOf};
 ghost use Rattle.decimal.specs.Decimal.{digitsFrom, capped, plain, decided, parseOf};
 
 // The value of a run of digits.
@@ -67,7 +67,7 @@ fn magnitude_of(s: &[u8]) -> Magnitude
 fn decide(s: Split) -> Decimal
     ensures { λ r. ⌜ r ≡ decided (signedOf s) ⌝ }
 {
-    match num::from_sign(s) {
+    match integer::from_sign(s) {
         Signed::Number(z) => Decimal::Number(z),
         Signed::Beyond => Decimal::Malformed,
     }

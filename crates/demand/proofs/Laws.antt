@@ -7,7 +7,7 @@ use native.Mathlib.Omega.{arith}
 use borrow.Author.Tests.{ne-eqb}
 use mir.Syntax.{w8, w32}
 use mir.Val.{Fits}
-use Rattle.num.specs.Bits.{bitOf}
+use Rattle.integer.specs.Bits.{bitOf}
 use Rattle.part.specs.declared.ChannelId.the-variants.{Local, Remote1, Remote2}
 use Rattle.part.specs.declared.FanId.{FanId}
 use Rattle.part.specs.declared.FanId.the-variants.{One, Two}

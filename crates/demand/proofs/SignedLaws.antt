@@ -6,9 +6,9 @@ use native.Mathlib.Omega.{arith}
 use borrow.Author.Tests.{ltb-true, ltb-false}
 use lib.Dec.{ltb}
 use lib.IntN.{ℤ, pos, negsuc, _-ℤ_, subℕ}
-use Rattle.num.specs.Range.{eighthsOf, natural}
-use Rattle.num.specs.declared.Ranged.{Ranged}
-use Rattle.num.specs.declared.Ranged.the-variants.{In, Out}
+use Rattle.integer.specs.Range.{eighthsOf, natural}
+use Rattle.integer.specs.declared.Ranged.{Ranged}
+use Rattle.integer.specs.declared.Ranged.the-variants.{In, Out}
 use Rattle.demand.specs.Demand.{slopeOf, demandOf}
 use Rattle.demand.specs.Signed.{FaithfulDemand}
 

@@ -3,8 +3,8 @@ use Prim.Native.Nat.{ℕ, _+_, _*_, _/_, min}
 use mathlib.Core.Path.{_≡_}
 use mathlib.Core.Bool.{Bool, cond}
 use lib.IntN.{ℤ, pos, _-ℤ_}
-use Rattle.num.specs.Range.{eighthsOf, natural}
-use Rattle.num.specs.declared.Ranged.the-variants.{In}
+use Rattle.integer.specs.Range.{eighthsOf, natural}
+use Rattle.integer.specs.declared.Ranged.the-variants.{In}
 use Rattle.demand.specs.Demand.{demandOf}
 
 -- 0 if the flag is off, else the lesser of 240 and 16m + floor(20 max(0, t - 8 Tmin) / R); `natural` is max(0, ..)

@@ -111,7 +111,7 @@ fn larger(a: u8, b: u8) -> u8
 pub fn target(config1: u8, speeds: u8, fan: FanId, local: u8, remote1: u8, remote2: u8) -> u8
     ensures { λ r. ⌜ r ≡ targetOf config1 speeds fan local remote1 remote2 ⌝ }
 {
-    if num::bit(config1, 7) {
+    if integer::bit(config1, 7) {
         let mode = config1 / 32 % 4;
         larger(
             asked_of(assigned(mode, fan, ChannelId::Local), local),
@@ -128,5 +128,5 @@ pub fn target(config1: u8, speeds: u8, fan: FanId, local: u8, remote1: u8, remot
 pub fn overridden(low: bool, behaviour: u8, latched: bool) -> bool
     ensures { λ r. ⌜ r ≡ overriddenOf low behaviour latched ⌝ }
 {
-    low | (num::bit(behaviour, 7) & latched)
+    low | (integer::bit(behaviour, 7) & latched)
 }

@@ -6,12 +6,12 @@ use native.Mathlib.Omega.{arith}
 use lib.Dec.{ltb, eqb}
 use borrow.Author.Needs.{needs}
 use borrow.Author.Tests.{ltb-true, eqb-false, lt-ltb, eq-eqb, ne-eqb}
-use Rattle.num.proofs.BoolLaws.{by-cases, either}
+use Rattle.integer.proofs.BoolLaws.{by-cases, either}
 use Rattle.drive.specs.declared.Setting.{Setting}
-use Rattle.drive.specs.declared.Beat.{Beat}
+use Rattle.drive.specs.declared.FanInput.{FanInput}
 use Rattle.drive.specs.declared.Drive.{Drive}
 use Rattle.drive.specs.Ramp.{nearerOf}
-use Rattle.drive.specs.Drive.{spinUpOf, dutyOf, startsOf, leftOf, drivenOf}
+use Rattle.drive.specs.Drive.{spinUpOf, dutyOf, spinUpStarts, leftOf, drivenOf}
 use Rattle.drive.proofs.RampLaws.{nearer-pos}
 
 -- one of two numbers above 0
@@ -32,7 +32,7 @@ on-or-off true false zero x = refl
 on-or-off true false (suc t) x = simp (lt-ltb 0 (suc t) (omega arith), ne-eqb (suc t) 0 (λ z. omega arith))
 on-or-off false o t x = refl
 
-module _ (s : Setting) (b : Beat) (d : Drive) where
+module _ (s : Setting) (b : FanInput) (d : Drive) where
   pub full : s .enabled ≡ true → s .overridden ≡ true → (drivenOf s b d) .duty ≡ 240
   unfolding drivenOf dutyOf
   full on over = simp (on, over)
@@ -49,14 +49,14 @@ module _ (s : Setting) (b : Beat) (d : Drive) where
   pub duty-zero : wanted s ≡ false → (drivenOf s b d) .duty ≡ 0
   duty-zero w = duty-is ∙ simp w
 
-  was-pos : wanted s ≡ true → startsOf s b (d .duty) ≡ false → 0 < d .duty
-  unfolding startsOf
+  was-pos : wanted s ≡ true → spinUpStarts s b (d .duty) ≡ false → 0 < d .duty
+  unfolding spinUpStarts
   was-pos w n =
       by-cases (eqb (d .duty) 0)
       (λ z. absurd (true≢false (simp (z, w, or-true) at n)))
       (λ z. omega (arith, eqb-false (d .duty) 0 z))
 
-  spinning : 0 < s .«spin_up» → startsOf s b (d .duty) ≡ true → ltb 0 (leftOf s b d) ≡ true
+  spinning : 0 < s .«spin_up» → spinUpStarts s b (d .duty) ≡ true → ltb 0 (leftOf s b d) ≡ true
   unfolding leftOf
   spinning h e = simp (e, lt-ltb 0 (s .«spin_up») h)
 
@@ -65,7 +65,7 @@ module _ (s : Setting) (b : Beat) (d : Drive) where
       rw (duty-is, w)
       (by-cases (s .overridden)
       (λ o. simp o (omega arith))
-      (λ o. by-cases (startsOf s b (d .duty))
+      (λ o. by-cases (spinUpStarts s b (d .duty))
       (λ e. simp (o, spinning h e) (omega arith))
       (λ e. simp o (going (aimed o) (was-pos w e)))))
     where
@@ -86,11 +86,11 @@ module _ (s : Setting) (b : Beat) (d : Drive) where
   left-is h = simp (ne-eqb ((drivenOf s b d) .duty) 0 (λ z. omega arith))
 
   count : b .failed ≡ false → 0 < d .duty → leftOf s b d ≡ d .left - cond (b .clock) 1 0
-  unfolding leftOf startsOf
+  unfolding leftOf spinUpStarts
   count fine h = simp (fine, ne-eqb (d .duty) 0 (λ z. omega arith)) (by-cases (b .clock) (λ c. simp c) (λ c. simp c (omega arith)))
 
 -- A fan that is to run, and is not overridden.
-module _ (s : Setting) (on : s .enabled ≡ true) (free : s .overridden ≡ false) (aim : 0 < s .target) (spin : 0 < s .«spin_up») (b : Beat) (d : Drive) where
+module _ (s : Setting) (on : s .enabled ≡ true) (free : s .overridden ≡ false) (aim : 0 < s .target) (spin : 0 < s .«spin_up») (b : FanInput) (d : Drive) where
   want : wanted s ≡ true
   want = simp (on, lt-ltb 0 (s .target) aim)
 

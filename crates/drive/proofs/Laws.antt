@@ -6,10 +6,10 @@ use native.Mathlib.Omega.{arith}
 use lib.Dec.{ltb}
 use borrow.Author.Tests.{eq-eqb, ne-eqb}
 use Rattle.drive.specs.declared.Setting.{Setting}
-use Rattle.drive.specs.declared.Beat.{Beat}
+use Rattle.drive.specs.declared.FanInput.{FanInput}
 use Rattle.drive.specs.declared.Drive.{Drive}
 use Rattle.drive.specs.Ramp.{nearerOf}
-use Rattle.drive.specs.Drive.{dutyOf, startsOf, leftOf, drivenOf}
+use Rattle.drive.specs.Drive.{dutyOf, spinUpStarts, leftOf, drivenOf}
 use Rattle.drive.specs.Tach.{runOf}
 
 -- Rule 5, each line of it.
@@ -43,7 +43,7 @@ module _ (s : Setting) (period spinning : Bool) (was : ℕ) where
   duty-plain p q r l f = simp (p, q, ne-eqb _ _ r, l, f)
 
 -- Rule 6: the clock events left, by what `starts` answered.
-module _ (s : Setting) (b : Beat) (d : Drive) {begun : Bool} (e : begun ≡ startsOf s b (d .duty)) where
+module _ (s : Setting) (b : FanInput) (d : Drive) {begun : Bool} (e : begun ≡ spinUpStarts s b (d .duty)) where
   pub left-starts : begun ≡ true → s .«spin_up» ≡ leftOf s b d
   unfolding leftOf
   left-starts p = simp (sym e ∙ p)
@@ -60,7 +60,7 @@ module _ (s : Setting) (b : Beat) (d : Drive) {begun : Bool} (e : begun ≡ star
   unfolding leftOf
   left-kept p q = simp (sym e ∙ p, q)
 
-module _ (s : Setting) (b : Beat) (d : Drive) {l n : ℕ} (e : l ≡ leftOf s b d) (f : n ≡ dutyOf s (b .period) (ltb 0 l) (d .duty)) where
+module _ (s : Setting) (b : FanInput) (d : Drive) {l n : ℕ} (e : l ≡ leftOf s b d) (f : n ≡ dutyOf s (b .period) (ltb 0 l) (d .duty)) where
   pub driven-none : n ≡ 0 → _≡_ {A = Drive} (record { duty = n; left = 0 }) (drivenOf s b d)
   unfolding drivenOf
   driven-none z = rw (← e, ← f, eq-eqb _ _ z)

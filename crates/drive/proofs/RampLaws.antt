@@ -7,7 +7,7 @@ use native.Mathlib.Omega.{arith}
 use lib.Dec.{ltb}
 use lib.ListN.{length, replicate}
 use borrow.Author.Tests.{ltb-true, ltb-false}
-use Rattle.num.proofs.BoolLaws.{by-cases}
+use Rattle.integer.proofs.BoolLaws.{by-cases}
 use Rattle.drive.specs.Ramp.{nearerOf, outside, ramped, Between, RampLaw}
 
 -- one step, without its test

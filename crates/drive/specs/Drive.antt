@@ -4,7 +4,7 @@ use mathlib.Core.Bool.{Bool, cond, _&&_, _||_}
 use lib.Dec.{ltb, eqb}
 use Rattle.drive.specs.Ramp.{nearerOf}
 use Rattle.drive.specs.declared.Setting.{Setting}
-use Rattle.drive.specs.declared.Beat.{Beat}
+use Rattle.drive.specs.declared.FanInput.{FanInput}
 use Rattle.drive.specs.declared.Drive.{Drive}
 
 -- rule 6: the clock events of a spin-up, by bits 2:0 of 0x20 or 0x21 (Table 9 of 000, in tenths of a second)
@@ -29,18 +29,18 @@ dutyOf s period spinning was =
     0
 
 -- rule 6: whether a spin-up starts
-unfoldable pub startsOf : Setting → Beat → (was : ℕ) → Bool
-startsOf s b was = b .failed || (eqb was 0 && (s .enabled && (ltb 0 (s .target) || s .overridden)))
+unfoldable pub spinUpStarts : Setting → FanInput → (was : ℕ) → Bool
+spinUpStarts s b was = b .failed || (eqb was 0 && (s .enabled && (ltb 0 (s .target) || s .overridden)))
 
 -- rule 6: the clock events left of the spin-up, before the duty is known
-unfoldable pub leftOf : Setting → Beat → Drive → ℕ
-leftOf s b d = cond (startsOf s b (d .duty)) (s .«spin_up») (cond (b .clock) (d .left - 1) (d .left))
+unfoldable pub leftOf : Setting → FanInput → Drive → ℕ
+leftOf s b d = cond (spinUpStarts s b (d .duty)) (s .«spin_up») (cond (b .clock) (d .left - 1) (d .left))
 
 -- rule 6: a spin-up ends early when the duty becomes 0
 abbrev pub keptOf : (duty left : ℕ) → Drive
 keptOf duty left = record { duty = duty; left = cond (eqb duty 0) 0 left }
 
-unfoldable pub drivenOf : Setting → Beat → Drive → Drive
+unfoldable pub drivenOf : Setting → FanInput → Drive → Drive
 drivenOf s b d = keptOf (dutyOf s (b .period) (ltb 0 (leftOf s b d)) (d .duty)) (leftOf s b d)
 
 -- rule 7: a fan is at alarm speed while enabled and overridden; entering that state sets its alarm bit

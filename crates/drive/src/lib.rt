@@ -2,7 +2,7 @@
 // A duty is in slots of 240.
 ghost use mathlib.Core.Path.{_≡_};
 ghost use Rattle.drive.specs.Ramp.{rateOf, nearerOf};
-ghost use Rattle.drive.specs.Drive.{spinUpOf, dutyOf, startsOf, leftOf, drivenOf, alarmOf};
+ghost use Rattle.drive.specs.Drive.{spinUpOf, dutyOf, spinUpStarts, leftOf, drivenOf, alarmOf};
 ghost use Rattle.drive.specs.Tach.{judgedOf, failedOf, runOf};
 
 // What registers, pin and channels ask of a fan after an event.
@@ -16,7 +16,7 @@ pub struct Setting {
 }
 
 // What an event is to a fan: a clock, a period of its own, a failed measurement of its own.
-pub struct Beat {
+pub struct FanInput {
     pub clock: bool,
     pub period: bool,
     pub failed: bool,
@@ -101,13 +101,13 @@ pub fn duty_after(s: Setting, period: bool, spinning: bool, was: u8) -> u8
     }
 }
 
-pub fn starts(s: Setting, b: Beat, was: u8) -> bool
-    ensures { λ r. ⌜ r ≡ startsOf s b was ⌝ }
+pub fn starts(s: Setting, b: FanInput, was: u8) -> bool
+    ensures { λ r. ⌜ r ≡ spinUpStarts s b was ⌝ }
 {
     b.failed | ((was == 0) & (s.enabled & ((0 < s.target) | s.overridden)))
 }
 
-fn spin_left(s: Setting, b: Beat, d: Drive) -> u8
+fn spin_left(s: Setting, b: FanInput, d: Drive) -> u8
     ensures { λ r. ⌜ r ≡ leftOf s b d ⌝ }
 {
     if starts(s, b, d.duty) {
@@ -121,7 +121,7 @@ fn spin_left(s: Setting, b: Beat, d: Drive) -> u8
 }
 
 // A fan after an event.
-pub fn driven(s: Setting, b: Beat, d: Drive) -> Drive
+pub fn driven(s: Setting, b: FanInput, d: Drive) -> Drive
     ensures { λ r. ⌜ r ≡ drivenOf s b d ⌝ }
 {
     let left = spin_left(s, b, d);

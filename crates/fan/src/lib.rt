@@ -1,18 +1,18 @@
 // A fan, and what an accepted event makes of it: duty and spin-up, run of failures, alarm speed, status bits.
 // One function serves both.
-use act::Act;
 use channel::Channel;
 use channel::Channels;
-use drive::Beat;
 use drive::Drive;
+use drive::FanInput;
 use drive::Setting;
 use event::Kind;
+use input::Input;
 use part::FanId;
-use stored::FanBytes;
-use stored::Limits;
-use stored::Settings;
+use stored::ChannelRegisters;
+use stored::FanRegisters;
+use stored::Registers;
 ghost use mathlib.Core.Path.{_≡_};
-ghost use Rattle.fan.specs.Fans.{channelDemand, fanTarget, overrideOf, settingOf, priorFan, judgesFan, failsFan, beatOf, fanRun, fanAfter, fanIn};
+ghost use Rattle.fan.specs.Fans.{channelDemand, fanTarget, overrideOf, settingOf, priorFan, judgesFan, failsFan, fanInputOf, fanRun, fanAfter, fanIn};
 
 // Duty and spin-up, run of failures, whether it is at alarm speed; then the alarm and fault status bits.
 pub struct Fan {
@@ -23,7 +23,7 @@ pub struct Fan {
     pub fault: bool,
 }
 
-fn channel_demand(f: FanId, speeds: u8, l: Limits, ch: Channel) -> u8
+fn channel_demand(f: FanId, speeds: u8, l: ChannelRegisters, ch: Channel) -> u8
     ensures { λ r. ⌜ r ≡ channelDemand f speeds l ch ⌝ }
 {
     demand::demand(
@@ -34,7 +34,7 @@ fn channel_demand(f: FanId, speeds: u8, l: Limits, ch: Channel) -> u8
     )
 }
 
-fn fan_target(f: FanId, s: Settings, cs: Channels) -> u8
+fn fan_target(f: FanId, s: Registers, cs: Channels) -> u8
     ensures { λ r. ⌜ r ≡ fanTarget f s cs ⌝ }
 {
     demand::target(
@@ -47,14 +47,14 @@ fn fan_target(f: FanId, s: Settings, cs: Channels) -> u8
     )
 }
 
-fn is_overridden(low: bool, s: Settings, cs: Channels) -> bool
+fn is_overridden(low: bool, s: Registers, cs: Channels) -> bool
     ensures { λ r. ⌜ r ≡ overrideOf low s cs ⌝ }
 {
     demand::overridden(low, s.behaviour, channel::therm(cs))
 }
 
 // What registers, pin and channels ask of a fan.
-pub fn setting(f: FanId, low: bool, s: Settings, b: FanBytes, cs: Channels) -> Setting
+pub fn setting(f: FanId, low: bool, s: Registers, b: FanRegisters, cs: Channels) -> Setting
     ensures { λ r. ⌜ r ≡ settingOf f low s b cs ⌝ }
 {
     Setting {
@@ -67,10 +67,10 @@ pub fn setting(f: FanId, low: bool, s: Settings, b: FanBytes, cs: Channels) -> S
     }
 }
 
-fn prior(r: Act, was: Fan) -> Fan
+fn prior(r: Input, was: Fan) -> Fan
     ensures { λ w. ⌜ w ≡ priorFan r was ⌝ }
 {
-    if act::is_fresh(r) {
+    if input::is_restart(r) {
         Fan {
             drive: Drive { duty: 0, left: 0 },
             run: 0,
@@ -84,24 +84,24 @@ fn prior(r: Act, was: Fan) -> Fan
 }
 
 // Whether the event is a judged count of the fan, and a failure.
-fn judges(f: FanId, tach: bool, r: Act, d: Drive) -> bool
+fn judges(f: FanId, tach: bool, r: Input, d: Drive) -> bool
     ensures { λ b. ⌜ b ≡ judgesFan f tach r (d .duty) (d .left) ⌝ }
 {
-    act::is_count(f, r) & drive::judged(tach, d)
+    input::is_count(f, r) & drive::judged(tach, d)
 }
 
-fn fails(f: FanId, tach: bool, limit: u8, r: Act, d: Drive) -> bool
+fn fails(f: FanId, tach: bool, limit: u8, r: Input, d: Drive) -> bool
     ensures { λ b. ⌜ b ≡ failsFan f tach limit r (d .duty) (d .left) ⌝ }
 {
     drive::failed(judges(f, tach, r, d), limit, r.val)
 }
 
-fn beat(f: FanId, failed: bool, r: Act) -> Beat
-    ensures { λ b. ⌜ b ≡ beatOf f failed r ⌝ }
+fn fan_input(f: FanId, failed: bool, r: Input) -> FanInput
+    ensures { λ b. ⌜ b ≡ fanInputOf f failed r ⌝ }
 {
-    Beat {
-        clock: act::is_a(Kind::Clock, r),
-        period: act::is_period(f, r),
+    FanInput {
+        clock: input::is_a(Kind::Clock, r),
+        period: input::is_period(f, r),
         failed,
     }
 }
@@ -117,18 +117,18 @@ fn run_after(tach: bool, judged: bool, failed: bool, was: u8) -> u8
 }
 
 // The fan after an event, from what is asked of it then and the fan before it.
-fn fan_after(f: FanId, s: Setting, tach: bool, limit: u8, pointer: u8, r: Act, w: Fan) -> Fan
+fn fan_after(f: FanId, s: Setting, tach: bool, limit: u8, pointer: u8, r: Input, w: Fan) -> Fan
     ensures { λ b. ⌜ b ≡ fanAfter f s tach limit pointer r w ⌝ }
 {
     let failed = fails(f, tach, limit, r, w.drive);
     let alarmed = drive::at_alarm(s);
-    let read = act::is_read(stored::status_at(f), pointer, r);
+    let read = input::is_read(stored::status_at(f), pointer, r);
     Fan {
-        drive: drive::driven(s, beat(f, failed, r), w.drive),
+        drive: drive::driven(s, fan_input(f, failed, r), w.drive),
         run: run_after(tach, judges(f, tach, r, w.drive), failed, w.run),
         alarmed,
-        alarm: act::mark_after(alarmed & !w.alarmed, read, w.alarm),
-        fault: act::mark_after(failed, read, w.fault),
+        alarm: input::bit_after(alarmed & !w.alarmed, read, w.alarm),
+        fault: input::bit_after(failed, read, w.fault),
     }
 }
 
@@ -136,11 +136,11 @@ fn fan_after(f: FanId, s: Setting, tach: bool, limit: u8, pointer: u8, r: Act, w
 pub fn fan_in(
     f: FanId,
     low: bool,
-    s: Settings,
-    b: FanBytes,
+    s: Registers,
+    b: FanRegisters,
     cs: Channels,
     pointer: u8,
-    r: Act,
+    r: Input,
     was: Fan,
 ) -> Fan
     ensures { λ x. ⌜ x ≡ fanIn f low s b cs pointer r was ⌝ }

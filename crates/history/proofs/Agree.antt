@@ -1,173 +1,153 @@
--- The agreement holds of every list; so demand 3 does. Assumes nothing.
+-- The agreement holds of every list. Assumes nothing.
 use Prim.Native.Nat.{ℕ, zero, suc}
 use mathlib.Core.Path.{_≡_, refl, sym, ap, _∙_}
-use mathlib.Core.Bool.{Bool, true, false, cond, _&&_, true≢false}
+use mathlib.Core.Bool.{Bool, true, false, cond, not, _&&_, _||_, true≢false}
 use mathlib.Core.List.{List, [], _∷_}
-use borrow.Author.Tests.{eqb-true}
-use Rattle.num.proofs.BoolLaws.{by-cases}
-use Rattle.num.specs.Bits.{bitOf}
-use Rattle.part.specs.declared.ChannelId.the-variants.{Local, Remote1, Remote2}
-use Rattle.part.specs.declared.FanId.{FanId}
+use Rattle.integer.proofs.BoolLaws.{by-cases}
+use Rattle.integer.specs.Bits.{bitOf}
+use Rattle.integer.specs.Range.{eighthsOf}
 use Rattle.part.specs.declared.FanId.the-variants.{One, Two}
+use lib.Dec.{eqb}
+use borrow.Author.Tests.{eqb-true}
 use Rattle.event.specs.Kinds.{isKind, placeOf, kindOf}
 use Rattle.event.specs.declared.Event.{Event}
 use Rattle.event.specs.declared.Kind.the-variants as kind
 use Rattle.event.specs.declared.Answer.{Answer}
 use Rattle.event.specs.declared.Answer.the-variants.{Done}
-use Rattle.event.specs.declared.Shown.{Shown}
-use Rattle.request.specs.Replies.{verdictOf}
-use Rattle.request.specs.Request.{asked}
-use Rattle.request.specs.declared.Verdict.the-variants.{Accept, Refuse}
-use Rattle.stored.specs.Stored.{monitors}
-use Rattle.chip.specs.Chips.{chipAfter}
-use Rattle.keeper.specs.Keeping.{blank, dataFor, decided, answerOf, shownBy, valuesFrom, imageAnswer, imageBuffer}
+use Rattle.judge.specs.Plain.{plainOf}
+use Rattle.judge.specs.Replies.{replyOf, accepts}
+use Rattle.judge.specs.declared.Standing.{Standing}
+use Rattle.stored.specs.Stored.{registersAfter}
+use Rattle.stored.specs.declared.Registers.{Registers}
+use Rattle.channel.specs.declared.Channels.{Channels}
+use Rattle.fan.specs.declared.Fan.{Fan}
+use Rattle.chip.specs.Chips.{portAfter, chipWith, chipUnder, chipAfter}
+use Rattle.chip.specs.declared.Port.{Port}
+use Rattle.chip.specs.declared.Chip.{Chip}
+use Rattle.keeper.specs.Keeping as keeping
+use Rattle.keeper.specs.Keeping.{isOn, chipIn, standingOf, answerOf}
 use Rattle.keeper.specs.declared.Keeper.{Keeper}
 use Rattle.keeper.specs.declared.Keeper.the-variants.{Off, On}
 use Rattle.keeper.specs.declared.Answered.{Answered}
-use Rattle.history.specs.Events.{History, act, powersUp, powered, address, stored, reply, accepted, pointer, pinLow, diodeError1, diodeError2, pulled, settings}
-use Rattle.history.specs.Temperatures.{thermAsserted}
-use Rattle.history.specs.Duties.{Spin, duty, failures, atAlarm, alarmBit, faultBit}
+use Rattle.history.specs.Events.{History, Taken, act, standing, taken, reply, powered, address, storedAt, pointer, pinLow, diodeError1, diodeError2, pulled}
+use Rattle.history.specs.Temperatures.{temperature, latch, flag, highBit, lowBit, thermBit}
+use Rattle.history.specs.Duties.{thermAsserted, target, overridden, setting, spin, duty, failures, atAlarm, alarmBit, faultBit}
 use Rattle.history.specs.Shows as shows
 use Rattle.history.specs.Agreement.{run, Agreement}
-use Rattle.history.specs.Demand3.{shownDuty, Demand3}
-use Rattle.history.proofs.HistoryLaws.{kind-is, refused-settings, refused-channels, refused-setting, refused-spin}
-use Rattle.history.proofs.PowerLaws.{off-reply, up-is, off-accepted, on-after, refused-powered, refused-address, off-stored, off-latch, off-spin, starts-afresh}
-use Rattle.history.proofs.StateLaws.{frontOf, fanOf, chipOf, chip-is}
+use Rattle.history.proofs.State.{portOf, channelRegistersOf, fanRegistersOf, registersOf, channelOf, channelsOf, fanOf, chipOf, stateOf}
+use Rattle.history.proofs.JudgeLaws.{passed}
+use Rattle.history.proofs.StepLaws.{where-on, port-is, registers-is, channels-is, on-after}
+use Rattle.history.proofs.TakenLaws.{Took, none, more, took, Held, held, held-after}
+use Rattle.history.proofs.FanLaws.{fan-is}
 use Rattle.history.proofs.ValueLaws.{value-is, shown-on}
-use Rattle.history.proofs.Demand3Laws as laws
-
--- the keeper that the rules describe
-unfoldable pub stateOf : History → Keeper
-stateOf h = cond (powered h) (On (chipOf h)) Off
-
-state-on : (h : History) → powered h ≡ true → stateOf h ≡ On (chipOf h)
-unfolding stateOf
-state-on h on = rw on
-
-state-off : (h : History) → powered h ≡ false → stateOf h ≡ Off
-unfolding stateOf
-state-off h off = rw off
 
 -- ---- one event
 
--- a power is no read
-not-read : (e : Event) (b : Bool) → powersUp e ≡ (isKind kind.Power e && b) → powersUp e ≡ true → isKind kind.Read e ≡ false
-not-read e b q up = by-cases (isKind kind.Power e) (λ p. rw (eqb-true (placeOf (kindOf e)) 0 p)) (λ p. absurd (true≢false (sym up ∙ q ∙ ap (λ (x : Bool). x && b) p)))
+same-chip : {k : Port} {s : Registers} {cs : Channels} {a a′ b b′ : Fan} → a ≡ a′ → b ≡ b′
+    → _≡_ {A = Chip} (record { port = k; registers = s; channels = cs; fan1 = a; fan2 = b }) (record { port = k; registers = s; channels = cs; fan1 = a′; fan2 = b′ })
+same-chip p q = rw (p, q)
 
-refused-chip : (e : Event) (h : History) → accepted e h ≡ false → chipOf (e ∷ h) ≡ chipOf h
-unfolding chipOf frontOf fanOf atAlarm pointer pinLow diodeError1 diodeError2 pulled alarmBit faultBit failures
-refused-chip e h bad = simp (bad, refused-address e h bad, refused-settings e h bad, refused-channels e h bad, refused-spin e h bad, refused-setting e h bad)
+module _ (e : Event) (d : Taken) (go : accepts (replyOf (standing d) e) ≡ true) (h : Held d) where
+  with-is : chipWith (portOf (e ∷ d)) (registersOf (e ∷ d)) (channelsOf (e ∷ d)) (pointer d) (act e) (fanOf One d) (fanOf Two d) ≡ chipOf (e ∷ d)
+  unfolding chipWith chipOf portOf registersOf
+  with-is = same-chip (fan-is e d (held-after e d go h) One) (fan-is e d (held-after e d go h) Two)
 
--- an accepted event finds a chip or none; either way the next chip is that of the rules
+  chip-is : chipAfter (act e) (chipOf d) ≡ chipOf (e ∷ d)
+  unfolding chipAfter chipUnder chipOf portOf
+  chip-is = rw (registers-is e d, channels-is e d go, port-is e d) with-is
+
+-- ---- the keeper
+
+-- a keeper that never had power has the chip of the empty list
+chip-in : {d : Taken} → Took d → chipIn (stateOf d) ≡ chipOf d
+chip-in none = (unfold stateOf powered chipOf portOf registersOf channelsOf channelOf channelRegistersOf fanRegistersOf address storedAt pointer pinLow diodeError1 diodeError2 pulled temperature latch flag highBit lowBit thermBit eighthsOf fanOf spin failures atAlarm alarmBit faultBit setting in refl)
+chip-in (more {e = e} {d = d} go t) = (unfold stateOf in rw (on-after e d go))
+
+is-on : (d : Taken) → isOn (stateOf d) ≡ powered d
+unfolding stateOf
+is-on d = by-cases (powered d) (λ p. rw p) (λ p. rw p)
+
+standing-is : {d : Taken} → Took d → standingOf (stateOf d) ≡ standing d
+unfolding standing chipOf portOf registersOf
+standing-is {d} t = rw (chip-in t, is-on d)
+
+-- a read is accepted only with power
+read-on : (e : Event) (d : Taken) → accepts (replyOf (standing d) e) ≡ true → isKind kind.Read e ≡ true → powered d ≡ true
+unfolding standing
+read-on e d go r = with-power (powered d) (placeOf (kindOf e)) (eqb-true (placeOf (kindOf e)) 3 r) (passed (standing d) (plainOf e) go .power)
+  where
+    with-power : (on : Bool) (k : ℕ) → k ≡ 3 → (not on && not (eqb k 0)) ≡ false → on ≡ true
+    with-power true k q z = refl
+    with-power false k q z = absurd (true≢false (rw q at z))
+
+data-is : (e : Event) {d : Taken} → Took d → accepts (replyOf (standing d) e) ≡ true → keeping.dataFor (chipOf d) (act e) ≡ cond (isKind kind.Read e) (shows.value (pointer d) d) 0
+unfolding chipOf portOf
+data-is e {d} t go = where-on (isKind kind.Read e) 0 (λ r. value-is t (read-on e d go r) (pointer d))
+
+-- what is answered, and the keeper after it
 same-answered : {k k′ : Keeper} {a a′ : Answer} → k ≡ k′ → a ≡ a′ → _≡_ {A = Answered} (record { keeper = k; answer = a }) (record { keeper = k′; answer = a′ })
 same-answered p q = rw (p, q)
 
-module _ (e : Event) (h : History) where
-  abbrev after : Answered
-  after = record { keeper = stateOf (e ∷ h); answer = shows.answer e h }
+moved : (e : Event) {d : Taken} → Took d → accepts (replyOf (standing d) e) ≡ true → On (chipAfter (act e) (chipOf d)) ≡ stateOf (e ∷ d)
+unfolding stateOf
+moved e {d} t go = rw (on-after e d go) (ap On (chip-is e d go (held t)))
 
-  up-chip : powered h ≡ false → accepted e h ≡ true → chipAfter (act e) blank ≡ chipOf (e ∷ h)
-  up-chip off go = starts-afresh e blank (chipOf h) (both (up-is e h) (sym (off-accepted e h off) ∙ go)) ∙ chip-is e h go
-    where
-      both : powersUp e ≡ (isKind kind.Power e && accepted e h) → powersUp e ≡ true → isKind kind.Power e ≡ true
-      both q up = by-cases (isKind kind.Power e) (λ p. p) (λ p. absurd (true≢false (sym up ∙ q ∙ ap (λ (b : Bool). b && accepted e h) p)))
-
-  verdict-on : powered h ≡ true → verdictOf true (address h) (monitors (settings h)) e ≡ cond (accepted e h) (Accept (asked e)) (Refuse (reply e h))
-  unfolding verdictOf accepted reply settings
-  verdict-on on = rw on
-
-  verdict-off : powered h ≡ false → verdictOf false 0 false e ≡ cond (accepted e h) (Accept (asked e)) (Refuse (reply e h))
-  unfolding verdictOf accepted reply
-  verdict-off off = rw (off, off-reply (address h) 0 (bitOf (stored 0x00 h) 0) false e)
-
-  -- the answer, and the keeper after it
-  next-is : accepted e h ≡ true → stateOf (e ∷ h) ≡ On (chipOf (e ∷ h))
-  unfolding stateOf
-  next-is go = rw (on-after e h go)
-
-  same-is : accepted e h ≡ false → stateOf h ≡ stateOf (e ∷ h)
-  unfolding stateOf
-  same-is bad = rw (refused-powered e h bad) (by-cases (powered h) (λ p. rw p (ap On (kept p))) (λ p. rw p))
-    where
-      kept : powered h ≡ true → chipOf h ≡ chipOf (e ∷ h)
-      kept p = sym (refused-chip e h bad)
-
-  done-is : accepted e h ≡ true → powered h ≡ true → Done (dataFor (chipOf h) (act e)) ≡ shows.answer e h
-  unfolding shows.answer chipOf frontOf
-  done-is go on = rw (go, kind-is kind.Read e) (ap (λ (v : ℕ). Done (cond (isKind kind.Read e) v 0)) (value-is h on (pointer h)))
-
-  up-answer : accepted e h ≡ true → powered h ≡ false → Done (dataFor blank (act e)) ≡ shows.answer e h
-  unfolding shows.answer
-  up-answer go off = rw (go, kind-is kind.Read e, not-read e (accepted e h) (up-is e h) (sym (off-accepted e h off) ∙ go))
-
-  refused-answer : accepted e h ≡ false → reply e h ≡ shows.answer e h
-  unfolding shows.answer
-  refused-answer bad = rw bad
-
-  decided-on : powered h ≡ true → decided (On (chipOf h)) (chipOf h) (cond (accepted e h) (Accept (asked e)) (Refuse (reply e h))) ≡ after
-  decided-on on =
-      by-cases (accepted e h)
-      (λ go. ap (λ (b : Bool). decided (On (chipOf h)) (chipOf h) (cond b (Accept (asked e)) (Refuse (reply e h)))) go ∙ same-answered (ap On (chip-is e h go) ∙ sym (next-is go)) (done-is go on))
-      (λ bad. ap (λ (b : Bool). decided (On (chipOf h)) (chipOf h) (cond b (Accept (asked e)) (Refuse (reply e h)))) bad ∙ same-answered (sym (state-on h on) ∙ same-is bad) (refused-answer bad))
-
-  decided-off : powered h ≡ false → decided Off blank (cond (accepted e h) (Accept (asked e)) (Refuse (reply e h))) ≡ after
-  decided-off off =
-      by-cases (accepted e h)
-      (λ go. ap (λ (b : Bool). decided Off blank (cond b (Accept (asked e)) (Refuse (reply e h)))) go ∙ same-answered (ap On (up-chip off go) ∙ sym (next-is go)) (up-answer go off))
-      (λ bad. ap (λ (b : Bool). decided Off blank (cond b (Accept (asked e)) (Refuse (reply e h)))) bad ∙ same-answered (sym (state-off h off) ∙ same-is bad) (refused-answer bad))
-
-  pub step-is : answerOf (stateOf h) e ≡ after
-  unfolding answerOf chipOf frontOf
-  step-is =
-      by-cases (powered h)
-      (λ on. ap (λ (k : Keeper). answerOf k e) (state-on h on) ∙ ap (decided (On (chipOf h)) (chipOf h)) (verdict-on on) ∙ decided-on on)
-      (λ off. ap (λ (k : Keeper). answerOf k e) (state-off h off) ∙ ap (decided Off blank) (verdict-off off) ∙ decided-off off)
+step-is : (e : Event) {d : Taken} → Took d → answerOf (stateOf d) e ≡ cond (accepts (replyOf (standing d) e))
+    (record { keeper = stateOf (e ∷ d); answer = Done (cond (isKind kind.Read e) (shows.value (pointer d) d) 0) })
+    (record { keeper = stateOf d; answer = replyOf (standing d) e })
+unfolding answerOf
+step-is e {d} t =
+    rw (standing-is t, chip-in t)
+    (by-cases (accepts (replyOf (standing d) e))
+    (λ go. rw go (same-answered (moved e t go) (ap Done (data-is e t go))))
+    (λ bad. rw bad))
 
 -- ---- every list
 
-pub agree : (h : History) → run h ≡ stateOf h
-unfolding run stateOf powered
+pub agree : (h : History) → run h ≡ stateOf (taken h)
+unfolding run taken stateOf powered
 agree [] = refl
-agree (e ∷ h) = ap (λ (k : Keeper). (answerOf k e) .keeper) (agree h) ∙ ap (λ (a : Answered). a .keeper) (step-is e h)
+agree (e ∷ h) =
+    ap (λ (k : Keeper). (answerOf k e) .keeper) (agree h) ∙ ap (λ (a : Answered). a .keeper) (step-is e (took h))
+    ∙ by-cases (accepts (replyOf (standing (taken h)) e)) (λ go. rw go) (λ bad. rw bad)
 
-off-duty : (f : FanId) (h : History) → powered h ≡ false → duty f h ≡ 0
-unfolding duty
-off-duty f h off = ap (λ (w : Spin). w .duty) (off-spin f h off)
+answer-is : (e : Event) (h : History) → (answerOf (stateOf (taken h)) e) .answer ≡ shows.answer e h
+unfolding shows.answer
+answer-is e h =
+    ap (λ (a : Answered). a .answer) (step-is e (took h))
+    ∙ by-cases (accepts (replyOf (standing (taken h)) e)) (λ go. rw go) (λ bad. rw bad)
 
-off-shown : (h : History) → powered h ≡ false → shownBy Off ≡ shows.shown h
-unfolding shownBy shows.shown shows.intAsserted shows.faultAsserted thermAsserted
-off-shown h off = simp (off-duty One h off, off-duty Two h off, off-stored 0x00 h off, off-latch Local h off, off-latch Remote1 h off, off-latch Remote2 h off)
+-- without power no event was accepted
+pub off-none : {d : Taken} → Took d → powered d ≡ false → d ≡ []
+off-none none off = refl
+off-none (more {e = e} {d = d} go t) off = absurd (true≢false (sym (on-after e d go) ∙ off))
 
-shows-is : (h : History) → shownBy (stateOf h) ≡ shows.shown h
-unfolding shownBy stateOf
-shows-is h = by-cases (powered h) (λ on. rw on (shown-on h)) (λ off. rw off (off-shown h off))
+pub zero-shown : shows.shown [] ≡ record { int = 0; therm = 0; fault = 0; duty1 = 0; duty2 = 0 }
+unfolding shows.shown shows.intAsserted shows.faultAsserted thermAsserted storedAt latch duty spin
+zero-shown = refl
 
-values-is : (h : History) → powered h ≡ true → (a n : ℕ) → valuesFrom a n (chipOf h) ≡ shows.valuesFrom a n h
-unfolding valuesFrom shows.valuesFrom
-values-is h on a zero = refl
-values-is h on a (suc n) = rw (value-is h on a, values-is h on (suc a) n)
+shows-is : {d : Taken} → Took d → keeping.shownBy (stateOf d) ≡ shows.shown d
+unfolding keeping.shownBy stateOf
+shows-is {d} t = by-cases (powered d) (λ on. rw on (shown-on d)) (λ off. rw off (sym (ap shows.shown (off-none t off) ∙ zero-shown)))
 
-image-is : (h : History) (buffer : List ℕ) → imageAnswer (stateOf h) buffer ≡ shows.imageReply buffer h
-unfolding imageAnswer stateOf shows.imageReply
-image-is h buffer = by-cases (powered h) (λ on. rw on) (λ off. rw off)
+values-is : {d : Taken} → Took d → powered d ≡ true → (a n : ℕ) → keeping.valuesFrom a n (chipOf d) ≡ shows.valuesFrom a n d
+unfolding keeping.valuesFrom shows.valuesFrom
+values-is t on a zero = refl
+values-is t on a (suc n) = rw (value-is t on a, values-is t on (suc a) n)
 
-buffer-is : (h : History) (buffer : List ℕ) → imageBuffer (stateOf h) buffer ≡ shows.imageHeld buffer h
-unfolding imageBuffer stateOf shows.imageHeld
-buffer-is h buffer = by-cases (powered h) (λ on. rw on (rw (values-is h on 0 64))) (λ off. rw off)
+image-is : (d : Taken) (buffer : List ℕ) → keeping.imageAnswer (stateOf d) buffer ≡ shows.imageReply buffer d
+unfolding keeping.imageAnswer stateOf shows.imageReply
+image-is d buffer = by-cases (powered d) (λ on. rw on) (λ off. rw off)
+
+buffer-is : {d : Taken} → Took d → (buffer : List ℕ) → keeping.imageBuffer (stateOf d) buffer ≡ shows.imageHeld buffer d
+unfolding keeping.imageBuffer stateOf shows.imageHeld
+buffer-is {d} t buffer = by-cases (powered d) (λ on. rw on (rw (values-is t on 0 64))) (λ off. rw off)
 
 pub agreement : (h : History) → Agreement h
 agreement h =
     record {
-      answers = λ e. ap (λ (k : Keeper). (answerOf k e) .answer) (agree h) ∙ ap (λ (a : Answered). a .answer) (step-is e h);
-      shows = ap shownBy (agree h) ∙ shows-is h;
-      image = λ buffer. ap (λ (k : Keeper). imageAnswer k buffer) (agree h) ∙ image-is h buffer;
-      buffer = λ buffer. ap (λ (k : Keeper). imageBuffer k buffer) (agree h) ∙ buffer-is h buffer;
+      answers = λ e. ap (λ (k : Keeper). (answerOf k e) .answer) (agree h) ∙ answer-is e h;
+      shows = ap keeping.shownBy (agree h) ∙ shows-is (took h);
+      image = λ buffer. ap (λ (k : Keeper). keeping.imageAnswer k buffer) (agree h) ∙ image-is (taken h) buffer;
+      buffer = λ buffer. ap (λ (k : Keeper). keeping.imageBuffer k buffer) (agree h) ∙ buffer-is (took h) buffer;
     }
-
-shown-is : (f : FanId) (h : History) → shownDuty f h ≡ duty f h
-unfolding shownDuty shows.shown
-shown-is One h = ap (λ (s : Shown). s .duty1) (agreement h .shows)
-shown-is Two h = ap (λ (s : Shown). s .duty2) (agreement h .shows)
-
-pub demand3 : (es : History) → Demand3 es
-demand3 = laws.demand3 shown-is

@@ -7,30 +7,30 @@ use native.Mathlib.Omega.{arith}
 use lib.Dec.{eqb}
 use lib.ListN.{getD, List·getD-eq-default}
 use borrow.Author.Tests.{eqb-true, eqb-false, ne-eqb, not-true}
-use Rattle.num.proofs.BoolLaws.{by-cases}
+use Rattle.integer.proofs.BoolLaws.{by-cases}
 use Rattle.event.specs.Answers.{numberOf, dataOf}
 use Rattle.event.specs.declared.Answer.{Answer}
 use Rattle.event.specs.declared.Answer.the-variants.{Done, NoPower, OtherAddress, NoSuchPart, NoSuchRegister, ReadOnly, OutOfRange, BadRangeCode, OddLocal, NotMonitoring}
 use Rattle.event.specs.declared.Event.{Event}
-use Rattle.request.specs.Replies.{noPower, otherAddress, noPart, noRegister, readOnly, inRange, badCode, oddLocal, notMonitoring, replyOf, accepts, verdictOf}
-use Rattle.keeper.specs.Keeping.{answerOf}
+use Rattle.judge.specs.Plain.{plainOf}
+use Rattle.judge.specs.Replies.{noPower, otherAddress, noPart, noRegister, readOnly, outOfRange, badCode, oddLocal, notMonitoring, lowest, replyOf, accepts}
+use Rattle.keeper.specs.Keeping.{standingOf, answerOf}
 use Rattle.keeper.specs.declared.Keeper.{Keeper}
-use Rattle.keeper.specs.declared.Keeper.the-variants.{Off, On}
-use Rattle.history.specs.Demand1.{isOn, ownAddress, isMonitoring, Applies, one, two, three, four, five, six, seven, eight, nine, number, Demand1}
+use Rattle.history.specs.Demand1.{Applies, one, two, three, four, five, six, seven, eight, nine, number, Demand1}
 
 -- ---- the reply
 
 -- the test of each number; 0 has none
 abbrev tests : Keeper → Event → List Bool
 tests k e =
-    false ∷ noPower (isOn k) e ∷ otherAddress (ownAddress k) e ∷ noPart e ∷ noRegister e ∷ readOnly e
-    ∷ not (inRange e) ∷ badCode e ∷ oddLocal e ∷ notMonitoring (isMonitoring k) e ∷ []
+    false ∷ noPower (standingOf k) (plainOf e) ∷ otherAddress (standingOf k) (plainOf e) ∷ noPart (plainOf e) ∷ noRegister (plainOf e) ∷ readOnly (plainOf e)
+    ∷ outOfRange (plainOf e) ∷ badCode (plainOf e) ∷ oddLocal (plainOf e) ∷ notMonitoring (standingOf k) (plainOf e) ∷ []
 
 abbrev test : Keeper → Event → ℕ → Bool
 test k e n = getD (tests k e) n false
 
 abbrev replyTo : Keeper → Event → Answer
-replyTo k e = replyOf (isOn k) (ownAddress k) (isMonitoring k) e
+replyTo k e = replyOf (standingOf k) e
 
 -- of the numbers from m up, the answer has the lowest that applies, or 0 where none does; where it is not 0, the data is 0
 record Lowest (k : Keeper) (e : Event) (m : ℕ) (a : Answer) : Type 0 where
@@ -46,7 +46,7 @@ module _ (k : Keeper) (e : Event) where
   tested (three p) = p
   tested (four p) = p
   tested (five p) = p
-  tested (six p) = ap not p
+  tested (six p) = p
   tested (seven p) = p
   tested (eight p) = p
   tested (nine p) = p
@@ -79,14 +79,14 @@ module _ (k : Keeper) (e : Event) where
       }))
 
   chosen : Lowest k e 1 (replyTo k e)
-  unfolding replyOf
+  unfolding lowest
   chosen =
       before NoPower (omega arith) refl one
       (before OtherAddress (omega arith) refl two
       (before NoSuchPart (omega arith) refl three
       (before NoSuchRegister (omega arith) refl four
       (before ReadOnly (omega arith) refl five
-      (before OutOfRange (omega arith) refl (λ t. six (not-true (inRange e) t))
+      (before OutOfRange (omega arith) refl six
       (before BadRangeCode (omega arith) refl seven
       (before OddLocal (omega arith) refl eight
       (before NotMonitoring (omega arith) refl nine last))))))))
@@ -95,15 +95,13 @@ module _ (k : Keeper) (e : Event) where
 
 -- an event that is accepted has number 0
 accepted-is : (k : Keeper) (e : Event) → accepts (replyTo k e) ≡ true → number k e ≡ 0
-unfolding answerOf verdictOf
-accepted-is Off e t = rw t
-accepted-is (On c) e t = rw t
+unfolding answerOf
+accepted-is k e t = rw t
 
 -- a refusal is the reply, and leaves the keeper
 refused-is : (k : Keeper) (e : Event) → accepts (replyTo k e) ≡ false → answerOf k e ≡ record { keeper = k; answer = replyTo k e }
-unfolding answerOf verdictOf
-refused-is Off e t = rw t
-refused-is (On c) e t = rw t
+unfolding answerOf
+refused-is k e t = rw t
 
 number-is : (k : Keeper) (e : Event) → number k e ≡ numberOf (replyTo k e)
 number-is k e =

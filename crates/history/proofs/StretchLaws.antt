@@ -1,108 +1,158 @@
 -- Through a stretch: the spin-up falls by the clock events, and the duty nears its target by the periods. Assumes nothing.
 use Prim.Native.Nat.{ℕ, _-_, _*_, _<_}
 use mathlib.Core.Path.{_≡_, refl, sym, ap, _∙_, subst}
-use mathlib.Core.Bool.{true, false, cond, _&&_, _||_, true≢false}
+use mathlib.Core.Bool.{Bool, true, false, cond, _&&_, _||_, true≢false}
 use mathlib.Core.List.{List, [], _∷_, _++_, append-assoc}
 use native.Mathlib.Nat.{add-comm, suc-mul}
 use native.Mathlib.Omega.{arith}
 use lib.Dec.{eqb}
 use borrow.Author.Tests.{lt-ltb, eqb-true, eqb-false}
-use Rattle.num.proofs.BoolLaws.{by-cases, neither}
+use Rattle.integer.proofs.BoolLaws.{by-cases, neither}
 use Rattle.part.specs.declared.FanId.{FanId}
+use Rattle.part.specs.declared.FanId.the-variants.{One, Two}
 use Rattle.event.specs.Kinds.{isKind}
 use Rattle.event.specs.declared.Event.{Event}
 use Rattle.event.specs.declared.Kind.the-variants as kind
-use Rattle.act.specs.Acts.{isA, periods}
-use Rattle.stored.specs.Stored.{storedAfter}
-use Rattle.drive.specs.declared.Drive.{Drive}
-use Rattle.drive.specs.Ramp.{nearerOf}
+use Rattle.input.specs.Inputs.{periods}
 use Rattle.drive.specs.Drive.{drivenOf}
+use Rattle.drive.specs.Ramp.{nearerOf}
+use Rattle.drive.specs.declared.FanInput.{FanInput}
+use Rattle.drive.specs.declared.Drive.{Drive}
+use Rattle.drive.specs.declared.Setting.{Setting}
+use Rattle.drive.proofs.DriveLaws.{spin-up-pos, wanted, full, duty-zero, zero-duty, plain, counted, ramped-step}
 use Rattle.drive.proofs.RampLaws.{nearer-is, nearer-sum}
-use Rattle.drive.proofs.DriveLaws.{wanted, counted, ramped-step}
-use Rattle.fan.specs.Fans.{settingOf}
-use Rattle.history.specs.Events.{History, act, stored, accepted, settings}
-use Rattle.history.specs.Duties.{setting, Spin, left, priorSpin, beatWith, failsWith, spin, duty, spinLeft, failed, periodsIn, clocksIn}
-use Rattle.history.specs.Demand3.{filtered, rate, overridden, Settled, disturbs, Stretch}
-use Rattle.history.proofs.HistoryLaws.{kind-is, refused-stored, refused-spin, accepted-stored}
-use Rattle.history.proofs.SpinLaws.{override-is, driveOf, sound, spun, spin-step}
+use Rattle.fan.specs.Fans.{fanInputOf}
+use Rattle.judge.specs.Replies.{accepts}
+use Rattle.history.specs.Events.{History, Taken, act, starts, taken, reply, storedAt}
+use Rattle.history.specs.Duties.{setting, Spin, left, prior, failsWith, spin, failed}
+use Rattle.history.specs.Duties as duties
+use Rattle.history.proofs.State.{driveOf}
+use Rattle.history.specs.Demand3.{enabled, filtered, target, rate, overridden, duty, spinLeft, accepted, periodsIn, clocksIn, Settled, disturbs, Stretch}
+use Rattle.history.proofs.FanLaws.{spin-driven}
+use Rattle.history.proofs.TakenLaws.{refused-is, accepted-is}
 
--- the filter and the ramp rate are by the byte at 0x23
-module _ (f : FanId) (g h : History) (same : stored 0x23 g ≡ stored 0x23 h) where
-  filter-by : filtered f g ≡ filtered f h
-  unfolding setting settingOf settings
-  filter-by = rw same
+-- ---- what holds of every fan after every list: s is what is asked of it, d the fan
 
-  rate-by : rate f g ≡ rate f h
-  unfolding setting settingOf settings
-  rate-by = rw same
+pub record Sound (s : Setting) (d : Drive) : Type 0 where
+  pub at-full : s .enabled ≡ true → s .overridden ≡ true → d .duty ≡ 240
+  pub at-zero : d .duty ≡ 0 → wanted s ≡ false
+  pub at-rest : wanted s ≡ false → d .duty ≡ 0
+  pub at-target : s .enabled ≡ true → s .overridden ≡ false → 0 < s .target → d .left ≡ 0 → s .filtered ≡ false → d .duty ≡ s .target
 
--- ---- one event that does not disturb
+sound-after : (s : Setting) (b : FanInput) (d : Drive) → 0 < s .«spin_up» → Sound s (drivenOf s b d)
+sound-after s b d spun =
+    record {
+      at-full = full s b d;
+      at-zero = zero-duty s b d spun;
+      at-rest = duty-zero s b d;
+      at-target = λ on free aim. plain s on free aim spun b d;
+    }
 
-module _ (f : FanId) (e : Event) (h : History) (calm : disturbs f e h ≡ false) where
-  unwritten : accepted e h ≡ true → (isKind kind.Write e || isKind kind.Power e) ≡ false
-  unfolding disturbs
-  unwritten r = simp r at (neither (accepted e h && (isKind kind.Write e || isKind kind.Power e)) (failed f e h) calm .0)
+spun : (f : FanId) (d : Taken) → 0 < setting f d .«spin_up»
+unfolding setting
+spun f d = spin-up-pos _
 
-  no-write : accepted e h ≡ true → isA kind.Write (act e) ≡ false
-  no-write r = kind-is kind.Write e ∙ neither (isKind kind.Write e) (isKind kind.Power e) (unwritten r) .0
+-- before the first event every stored byte is 0
+off : (f : FanId) → setting f [] .enabled ≡ false
+unfolding setting storedAt
+off One = refl
+off Two = refl
 
-  no-power : accepted e h ≡ true → isA kind.Power (act e) ≡ false
-  no-power r = kind-is kind.Power e ∙ neither (isKind kind.Write e) (isKind kind.Power e) (unwritten r) .1
+pub sound : (f : FanId) (d : Taken) → Sound (setting f d) (driveOf (spin f d))
+sound f [] =
+    record {
+      at-full = λ on over. absurd (true≢false (sym on ∙ off f));
+      at-zero = λ z. simp (off f);
+      at-rest = λ z. (unfold spin in refl);
+      at-target = λ on free aim z p. absurd (true≢false (sym on ∙ off f));
+    }
+sound f (e ∷ d) = (unfold spin in subst (Sound (setting f (e ∷ d))) (sym (spin-driven _ _ _)) (sound-after _ _ _ (spun f (e ∷ d))))
 
-  filter-byte : stored 0x23 (e ∷ h) ≡ stored 0x23 h
-  filter-byte =
-      by-cases (accepted e h)
-      (λ r. accepted-stored e h r 0x23 ∙ (unfold storedAfter in simp (no-write r, no-power r)))
-      (λ r. refused-stored e h r 0x23)
+-- ---- one accepted event that does not disturb
 
-  same-prior : accepted e h ≡ true → priorSpin e (spin f h) ≡ spin f h
-  same-prior r = simp (no-write r, no-power r)
+module _ (f : FanId) (e : Event) (d : Taken) (calm : ((isKind kind.Write e || isKind kind.Power e) || failed f e d) ≡ false) where
+  no-write : isKind kind.Write e ≡ false
+  no-write = neither (isKind kind.Write e) (isKind kind.Power e) (neither _ (failed f e d) calm .0) .0
 
-  no-failure : accepted e h ≡ true → failsWith f e h (spin f h) ≡ false
-  unfolding disturbs failed
-  no-failure r =
-      subst (λ (w : Spin). failsWith f e h w ≡ false) (same-prior r)
-      (simp r at (neither (accepted e h && (isKind kind.Write e || isKind kind.Power e)) (failed f e h) calm .1))
+  no-power : isKind kind.Power e ≡ false
+  no-power = neither (isKind kind.Write e) (isKind kind.Power e) (neither _ (failed f e d) calm .0) .1
 
-  stepped : accepted e h ≡ true → driveOf (spin f (e ∷ h)) ≡ drivenOf (setting f (e ∷ h)) (beatWith f e h (spin f h)) (driveOf (spin f h))
-  stepped r =
-      spin-step f e h r
-      ∙ ap (λ (w : Spin). drivenOf (setting f (e ∷ h)) (beatWith f e h w) (driveOf w)) (same-prior r)
+  filter-byte : storedAt 0x23 (e ∷ d) ≡ storedAt 0x23 d
+  unfolding storedAt
+  filter-byte = simp (no-write, no-power)
 
-  -- a fan that is settled at d before and after it
-  module _ (d : ℕ) (pos : 0 < d) (before : Settled f d h) (after : Settled f d (e ∷ h)) where
-    was : 0 < spin f h .duty
+  same-prior : prior e (spin f d) ≡ spin f d
+  same-prior = simp (no-write, no-power)
+
+  no-failure : failsWith f e d (spin f d) ≡ false
+  unfolding failed
+  no-failure = subst (λ (w : Spin). failsWith f e d w ≡ false) same-prior (neither (isKind kind.Write e || isKind kind.Power e) (failed f e d) calm .1)
+
+  stepped : driveOf (spin f (e ∷ d)) ≡ drivenOf (setting f (e ∷ d)) (fanInputOf f (failsWith f e d (spin f d)) (act e)) (driveOf (spin f d))
+  unfolding spin
+  stepped =
+      spin-driven (setting f (e ∷ d)) (fanInputOf f (failsWith f e d (prior e (spin f d))) (act e)) (prior e (spin f d))
+      ∙ ap (λ (w : Spin). drivenOf (setting f (e ∷ d)) (fanInputOf f (failsWith f e d w) (act e)) (driveOf w)) same-prior
+
+  -- a fan that is to be at n before and after it
+  module _ (n : ℕ) (pos : 0 < n) (on : setting f d .enabled ≡ true) (aim : setting f d .target ≡ n)
+      (on′ : setting f (e ∷ d) .enabled ≡ true) (free′ : setting f (e ∷ d) .overridden ≡ false) (aim′ : setting f (e ∷ d) .target ≡ n) where
+    was : 0 < spin f d .duty
     was =
-        by-cases (eqb (spin f h .duty) 0)
-        (λ z. absurd (true≢false (sym want ∙ sound f h .at-zero (eqb-true _ _ z))))
-        (λ z. omega (arith, eqb-false (spin f h .duty) 0 z))
+        by-cases (eqb (spin f d .duty) 0)
+        (λ z. absurd (true≢false (sym want ∙ sound f d .at-zero (eqb-true _ _ z))))
+        (λ z. omega (arith, eqb-false (spin f d .duty) 0 z))
       where
-        want : wanted (setting f h) ≡ true
-        want = simp (before .on, before .aim, lt-ltb 0 d pos)
+        want : wanted (setting f d) ≡ true
+        want = simp (on, aim, lt-ltb 0 n pos)
 
-    free : setting f (e ∷ h) .overridden ≡ false
-    free = override-is f (e ∷ h) ∙ after .free
+    up : 0 < setting f (e ∷ d) .target
+    up = rw aim′ pos
 
-    aim : 0 < setting f (e ∷ h) .target
-    aim = rw (after .aim) pos
+    spin-after : left (spin f (e ∷ d)) ≡ left (spin f d) - cond (isKind kind.Clock e) 1 0
+    spin-after = ap (λ (x : Drive). x .left) stepped ∙ counted (setting f (e ∷ d)) on′ free′ up (spun f (e ∷ d)) _ _ no-failure was
 
-    spin-after : spinLeft f (e ∷ h) ≡ spinLeft f h - cond (accepted e h && isKind kind.Clock e) 1 0
-    unfolding spinLeft
-    spin-after =
-        by-cases (accepted e h)
-        (λ r. ap (λ (x : Drive). x .left) (stepped r)
-        ∙ (counted (setting f (e ∷ h)) (after .on) free aim (spun f (e ∷ h)) _ _ (no-failure r) was
-        ∙ simp (r, kind-is kind.Clock e)))
-        (λ r. ap left (refused-spin e h r f) ∙ simp r (omega arith))
-
-    duty-after : spinLeft f h ≡ 0 → filtered f h ≡ true → duty f (e ∷ h) ≡ cond (accepted e h && periods f (act e)) (nearerOf (rate f h) d (duty f h)) (duty f h)
-    unfolding spinLeft duty
+    duty-after : left (spin f d) ≡ 0 → setting f d .filtered ≡ true → spin f (e ∷ d) .duty ≡ cond (periods f (act e)) (nearerOf (setting f d .rate) n (spin f d .duty)) (spin f d .duty)
     duty-after z p =
+        ap (λ (x : Drive). x .duty) stepped
+        ∙ (ramped-step (setting f (e ∷ d)) on′ free′ up (spun f (e ∷ d)) _ _ no-failure was z (filter-by ∙ p)
+        ∙ simp (rate-by, aim′))
+      where
+        filter-by : setting f (e ∷ d) .filtered ≡ setting f d .filtered
+        filter-by = (unfold setting in rw filter-byte)
+
+        rate-by : setting f (e ∷ d) .rate ≡ setting f d .rate
+        rate-by = (unfold setting in rw filter-byte)
+
+-- ---- one event of a stretch, refused or not
+
+module _ (f : FanId) (e : Event) (h : History) (still : disturbs f e h ≡ false) where
+  calm : accepted e h ≡ true → ((isKind kind.Write e || isKind kind.Power e) || failed f e (taken h)) ≡ false
+  unfolding disturbs
+  calm r = rw r at still
+
+  byte-same : storedAt 0x23 (taken (e ∷ h)) ≡ storedAt 0x23 (taken h)
+  byte-same =
+      by-cases (accepted e h)
+      (λ r. rw (accepted-is e h r) (filter-byte f e (taken h) (calm r)))
+      (λ r. rw (refused-is e h r))
+
+  module _ (n : ℕ) (pos : 0 < n) (before : Settled f n h) (after : Settled f n (e ∷ h)) where
+    left-after : spinLeft f (e ∷ h) ≡ spinLeft f h - cond (accepted e h && isKind kind.Clock e) 1 0
+    unfolding setting
+    left-after =
         by-cases (accepted e h)
-        (λ r. ap (λ (x : Drive). x .duty) (stepped r)
-        ∙ (ramped-step (setting f (e ∷ h)) (after .on) free aim (spun f (e ∷ h)) _ _ (no-failure r) was z (filter-by f (e ∷ h) h filter-byte ∙ p)
-        ∙ simp (r, rate-by f (e ∷ h) h filter-byte, after .aim)))
-        (λ r. ap (λ (w : Spin). w .duty) (refused-spin e h r f) ∙ simp r)
+        (λ r. let q = accepted-is e h r in rw (q, r)
+        (spin-after f e (taken h) (calm r) n pos (before .on) (before .aim) (rw q at (after .on)) (rw q at (after .free)) (rw q at (after .aim))))
+        (λ r. rw (refused-is e h r, r) (omega arith))
+
+    duty-next : spinLeft f h ≡ 0 → filtered f h ≡ true → duty f (e ∷ h) ≡ cond (accepted e h && periods f (act e)) (nearerOf (rate f h) n (duty f h)) (duty f h)
+    unfolding duties.duty setting
+    duty-next z p =
+        by-cases (accepted e h)
+        (λ r. let q = accepted-is e h r in rw (q, r)
+        (duty-after f e (taken h) (calm r) n pos (before .on) (before .aim) (rw q at (after .on)) (rw q at (after .free)) (rw q at (after .aim)) z p))
+        (λ r. rw (refused-is e h r, r))
 
 -- ---- all of a stretch
 
@@ -122,19 +172,24 @@ split f d (e ∷ t) s h st = (
 )
 
 module _ (f : FanId) (d : ℕ) (pos : 0 < d) where
-  byte-kept : (s : List Event) (h : History) → Stretch f d s h → stored 0x23 (s ++ h) ≡ stored 0x23 h
+  byte-kept : (s : List Event) (h : History) → Stretch f d s h → storedAt 0x23 (taken (s ++ h)) ≡ storedAt 0x23 (taken h)
   unfolding Stretch
   byte-kept [] h st = refl
-  byte-kept (e ∷ s) h st = filter-byte f e (s ++ h) (st .1) ∙ byte-kept s h (st .0)
+  byte-kept (e ∷ s) h st = byte-same f e (s ++ h) (st .1) ∙ byte-kept s h (st .0)
 
   pub filter-kept : (s : List Event) (h : History) → Stretch f d s h → filtered f (s ++ h) ≡ filtered f h
-  filter-kept s h st = filter-by f (s ++ h) h (byte-kept s h st)
+  unfolding setting
+  filter-kept s h st = rw (byte-kept s h st)
+
+  rate-kept : (s : List Event) (h : History) → Stretch f d s h → rate f (s ++ h) ≡ rate f h
+  unfolding setting
+  rate-kept s h st = rw (byte-kept s h st)
 
   pub spin-falls : (s : List Event) (h : History) → Stretch f d s h → spinLeft f (s ++ h) ≡ spinLeft f h - clocksIn s h
   unfolding Stretch clocksIn
   spin-falls [] h st = omega arith
   spin-falls (e ∷ s) h st =
-      spin-after f e (s ++ h) (st .1) d pos (settled-at-end f d s h (st .0)) (st .2)
+      left-after f e (s ++ h) (st .1) d pos (settled-at-end f d s h (st .0)) (st .2)
       ∙ by-cases (accepted e (s ++ h) && isKind kind.Clock e)
       (λ c. simp c (omega (arith, spin-falls s h (st .0))))
       (λ c. simp c (omega (arith, spin-falls s h (st .0))))
@@ -143,7 +198,7 @@ module _ (f : FanId) (d : ℕ) (pos : 0 < d) where
   unfolding Stretch periodsIn
   duty-nears [] h st z p = rw nearer-is (omega arith)
   duty-nears (e ∷ s) h st z p =
-      duty-after f e (s ++ h) (st .1) d pos (settled-at-end f d s h (st .0)) (st .2) (omega (arith, spin-falls s h (st .0))) (filter-kept s h (st .0) ∙ p)
+      duty-next f e (s ++ h) (st .1) d pos (settled-at-end f d s h (st .0)) (st .2) (omega (arith, spin-falls s h (st .0))) (filter-kept s h (st .0) ∙ p)
       ∙ by-cases (accepted e (s ++ h) && periods f (act e))
-      (λ c. simp (c, rate-by f (s ++ h) h (byte-kept s h (st .0)), duty-nears s h (st .0) z p, nearer-sum, suc-mul, add-comm (rate f h)))
+      (λ c. simp (c, rate-kept s h (st .0), duty-nears s h (st .0) z p, nearer-sum, suc-mul, add-comm (rate f h)))
       (λ c. simp c (duty-nears s h (st .0) z p))

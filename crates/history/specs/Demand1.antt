@@ -1,39 +1,25 @@
 -- Demand 1, for every keeper, reachable or not, and every event with every number.
 use Prim.Native.Nat.{ℕ, _<_, _≤_}
 use mathlib.Core.Path.{_≡_}
-use mathlib.Core.Bool.{Bool, true, false, not}
+use mathlib.Core.Bool.{true, false}
 use Rattle.event.specs.Answers.{numberOf, dataOf}
 use Rattle.event.specs.declared.Event.{Event}
-use Rattle.request.specs.Replies.{noPower, otherAddress, noPart, noRegister, readOnly, inRange, badCode, oddLocal, notMonitoring}
-use Rattle.stored.specs.Stored.{monitors}
-use Rattle.keeper.specs.Keeping.{answerOf}
+use Rattle.judge.specs.Plain.{plainOf}
+use Rattle.judge.specs.Replies.{noPower, otherAddress, noPart, noRegister, readOnly, outOfRange, badCode, oddLocal, notMonitoring}
+use Rattle.keeper.specs.Keeping.{standingOf, answerOf}
 use Rattle.keeper.specs.declared.Keeper.{Keeper}
-use Rattle.keeper.specs.declared.Keeper.the-variants.{Off, On}
-
--- what a reply asks of a keeper
-abbrev pub isOn : Keeper → Bool
-isOn Off = false
-isOn (On c) = true
-
-abbrev pub ownAddress : Keeper → ℕ
-ownAddress Off = 0
-ownAddress (On c) = c .front .address
-
-abbrev pub isMonitoring : Keeper → Bool
-isMonitoring Off = false
-isMonitoring (On c) = monitors (c .settings)
 
 -- the condition of each reply number
 pub data Applies (k : Keeper) (e : Event) : ℕ → Type 0 where
-  one : noPower (isOn k) e ≡ true → Applies k e 1
-  two : otherAddress (ownAddress k) e ≡ true → Applies k e 2
-  three : noPart e ≡ true → Applies k e 3
-  four : noRegister e ≡ true → Applies k e 4
-  five : readOnly e ≡ true → Applies k e 5
-  six : inRange e ≡ false → Applies k e 6
-  seven : badCode e ≡ true → Applies k e 7
-  eight : oddLocal e ≡ true → Applies k e 8
-  nine : notMonitoring (isMonitoring k) e ≡ true → Applies k e 9
+  one : noPower (standingOf k) (plainOf e) ≡ true → Applies k e 1
+  two : otherAddress (standingOf k) (plainOf e) ≡ true → Applies k e 2
+  three : noPart (plainOf e) ≡ true → Applies k e 3
+  four : noRegister (plainOf e) ≡ true → Applies k e 4
+  five : readOnly (plainOf e) ≡ true → Applies k e 5
+  six : outOfRange (plainOf e) ≡ true → Applies k e 6
+  seven : badCode (plainOf e) ≡ true → Applies k e 7
+  eight : oddLocal (plainOf e) ≡ true → Applies k e 8
+  nine : notMonitoring (standingOf k) (plainOf e) ≡ true → Applies k e 9
 
 abbrev pub number : Keeper → Event → ℕ
 number k e = numberOf ((answerOf k e) .answer)

@@ -1,7 +1,7 @@
 -- Demand 3, over every list of events, the newest first.
-use Prim.Native.Nat.{ℕ, _+_, _-_, _*_, _<_, _≤_}
+use Prim.Native.Nat.{ℕ, suc, _+_, _-_, _*_, _<_, _≤_}
 use mathlib.Core.Path.{_≡_}
-use mathlib.Core.Bool.{Bool, true, false, not, _&&_, _||_}
+use mathlib.Core.Bool.{Bool, true, false, cond, not, _&&_, _||_}
 use mathlib.Core.List.{List, [], _∷_, _++_}
 use lib.Dec.{ltb, eqb}
 use Rattle.part.specs.declared.FanId.{FanId}
@@ -9,12 +9,12 @@ use Rattle.part.specs.declared.FanId.the-variants.{One, Two}
 use Rattle.event.specs.Kinds.{isKind}
 use Rattle.event.specs.declared.Event.{Event}
 use Rattle.event.specs.declared.Kind.the-variants as kind
-use Rattle.num.specs.Bits.{bitOf}
 use Rattle.keeper.specs.Keeping.{shownBy}
+use Rattle.input.specs.Inputs.{periods}
+use Rattle.judge.specs.Replies.{accepts}
 use Rattle.drive.specs.Ramp.{outside}
-use Rattle.history.specs.Events.{History, accepted, stored, pinLow}
-use Rattle.history.specs.Temperatures.{thermAsserted}
-use Rattle.history.specs.Duties.{setting, duty, spinLeft, failed, periodsIn, clocksIn}
+use Rattle.history.specs.Events.{History, act, taken, reply}
+use Rattle.history.specs.Duties as duties
 use Rattle.history.specs.Agreement.{run}
 
 -- the duty that the program shows after the list
@@ -25,20 +25,37 @@ shownDuty Two h = shownBy (run h) .duty2
 -- ---- the terms of the demand, from the list alone
 
 abbrev pub enabled : FanId → History → Bool
-enabled f h = setting f h .enabled
+enabled f h = duties.setting f (taken h) .enabled
 
 abbrev pub filtered : FanId → History → Bool
-filtered f h = setting f h .filtered
+filtered f h = duties.setting f (taken h) .filtered
 
 abbrev pub target : FanId → History → ℕ
-target f h = setting f h .target
+target f h = duties.setting f (taken h) .target
 
 abbrev pub rate : FanId → History → ℕ
-rate f h = setting f h .rate
+rate f h = duties.setting f (taken h) .rate
 
--- duty 4: THERM is pulled low from outside, or is asserted with its fan bit set
-unfoldable pub overridden : History → Bool
-overridden h = pinLow h || (bitOf (stored 0x3F h) 7 && thermAsserted h)
+abbrev pub overridden : History → Bool
+overridden h = duties.overridden (taken h)
+
+abbrev pub duty : FanId → History → ℕ
+duty f h = duties.duty f (taken h)
+
+abbrev pub spinLeft : FanId → History → ℕ
+spinLeft f h = duties.left (duties.spin f (taken h))
+
+abbrev pub accepted : Event → History → Bool
+accepted e h = accepts (reply e h)
+
+-- of the events s, the newest first, that came after h: accepted periods of the fan, accepted clocks
+unfoldable pub periodsIn : FanId → List Event → History → ℕ
+periodsIn f [] h = 0
+periodsIn f (e ∷ s) h = cond (accepted e (s ++ h) && periods f (act e)) (suc (periodsIn f s h)) (periodsIn f s h)
+
+unfoldable pub clocksIn : List Event → History → ℕ
+clocksIn [] h = 0
+clocksIn (e ∷ s) h = cond (accepted e (s ++ h) && isKind kind.Clock e) (suc (clocksIn s h)) (clocksIn s h)
 
 -- ---- the stretch
 
@@ -50,7 +67,7 @@ pub record Settled (f : FanId) (d : ℕ) (h : History) : Type 0 where
 
 -- an accepted write, a power-on or a failed measurement of the fan
 unfoldable pub disturbs : FanId → Event → History → Bool
-disturbs f e h = (accepted e h && (isKind kind.Write e || isKind kind.Power e)) || failed f e h
+disturbs f e h = accepted e h && ((isKind kind.Write e || isKind kind.Power e) || duties.failed f e (taken h))
 
 -- the stretch s, the newest event first, that came after h: no event disturbs, and the fan is settled at its start and after each event
 unfoldable pub Stretch : FanId → ℕ → List Event → History → Type 0

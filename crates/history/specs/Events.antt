@@ -1,110 +1,111 @@
--- The rules over the list of events, the newest first, with no regard to the program: power, replies, registers, bus and pin.
+-- The rules over the accepted events, the newest first: registers, bus and pin; and which events are accepted.
 use Prim.Native.Nat.{ℕ}
-use mathlib.Core.Bool.{Bool, false, cond, _&&_, _||_}
+use mathlib.Core.Bool.{Bool, true, false, cond, not, _&&_, _||_}
 use mathlib.Core.List.{List, [], _∷_}
-use Rattle.num.specs.Bits.{bitOf}
+use lib.Dec.{eqb}
+use lib.IntN.{ℤ}
+use Rattle.integer.specs.Bits.{bitOf, mergedOf}
 use Rattle.part.specs.declared.ChannelId.{ChannelId}
-use Rattle.part.specs.declared.ChannelId.the-variants.{Local, Remote1, Remote2}
 use Rattle.part.specs.declared.FanId.{FanId}
-use Rattle.part.specs.declared.FanId.the-variants.{One, Two}
+use Rattle.part.specs.declared.FanId.the-variants.{Two}
 use Rattle.event.specs.Kinds.{isKind, numbersOf}
 use Rattle.event.specs.declared.Event.{Event}
 use Rattle.event.specs.declared.Kind.the-variants as kind
 use Rattle.event.specs.declared.Answer.{Answer}
-use Rattle.num.specs.Range.{natural}
-use Rattle.request.specs.Request.{asked}
-use Rattle.request.specs.Replies.{replyOf, accepts}
-use Rattle.act.specs.Acts.{actOf}
-use Rattle.act.specs.declared.Act.{Act}
-use Rattle.stored.specs.Stored.{storedAfter, offsetAt, highAt, lowAt, thermAt, controlAt, speedAt, tachLimitAt, characteristicsAt}
-use Rattle.stored.specs.declared.Limits.{Limits}
-use Rattle.stored.specs.declared.FanBytes.{FanBytes}
-use Rattle.stored.specs.declared.Settings.{Settings}
-use Rattle.chip.specs.Chips.{lowAfter, pointerAfter, pulledAfter, error1After, error2After}
+use Rattle.register.specs.Table.{maskAt, resetAt}
+use Rattle.input.specs.declared.Input.{Input}
+use Rattle.input.specs.Inputs as acts
+use Rattle.stored.specs.Stored as stored
+use Rattle.judge.specs.Plain.{plainOf, bytesOf}
+use Rattle.judge.specs.Replies.{replyOf, accepts}
+use Rattle.judge.specs.declared.Standing.{Standing}
 
+-- ---- what an accepted event is
+
+abbrev pub act : Event → Input
+act e = bytesOf (plainOf e)
+
+-- power or the software reset; a write of the register at an address, a read of it, a count for it; a sample of a channel
+abbrev pub starts : Event → Bool
+starts e = acts.restarts (act e)
+
+abbrev pub writes : (address : ℕ) → Event → Bool
+writes a e = acts.writes a (act e)
+
+abbrev pub reads : (address pointer : ℕ) → Event → Bool
+reads a pointer e = acts.reads a pointer (act e)
+
+abbrev pub counts : (address : ℕ) → Event → Bool
+counts a e = stored.counts a (act e)
+
+abbrev pub samples : ChannelId → Event → Bool
+samples c e = acts.samples c (act e)
+
+-- its eighths of a degree, as they were given
+abbrev pub eighths : Event → ℤ
+eighths e = numbersOf e .val
+
+-- ---- the rules
+
+-- the accepted events, the newest first
+abbrev pub Taken : Type 0
+Taken = List Event
+
+unfoldable pub powered : Taken → Bool
+powered [] = false
+powered (e ∷ d) = isKind kind.Power e || powered d
+
+unfoldable pub address : Taken → ℕ
+address [] = 0
+address (e ∷ d) = cond (isKind kind.Power e) (act e .who) (address d)
+
+-- the byte stored at an address: its reset byte; what is written, read-only bits keeping theirs; a fan's count
+unfoldable pub storedAt : (address : ℕ) → Taken → ℕ
+storedAt a [] = 0
+storedAt a (e ∷ d) =
+    cond (starts e) (resetAt a)
+    (cond (writes a e) (mergedOf (maskAt a) (storedAt a d) (act e .val))
+    (cond (counts a e) (act e .val) (storedAt a d)))
+
+-- below the reply table: the pointer; a write that is done sets it too
+unfoldable pub pointer : Taken → ℕ
+pointer [] = 0
+pointer (e ∷ d) = cond (isKind kind.Power e) 0 (cond (isKind kind.Write e || isKind kind.Point e) (act e .arg) (pointer d))
+
+unfoldable pub pinLow : Taken → Bool
+pinLow [] = false
+pinLow (e ∷ d) = cond (isKind kind.Power e) false (cond (isKind kind.Pin e) (eqb (act e .val) 0) (pinLow d))
+
+-- temperatures 5: diode errors come from power
+unfoldable pub diodeError1 : Taken → Bool
+diodeError1 [] = false
+diodeError1 (e ∷ d) = cond (isKind kind.Power e) (eqb (act e .arg) 1) (diodeError1 d)
+
+unfoldable pub diodeError2 : Taken → Bool
+diodeError2 [] = false
+diodeError2 (e ∷ d) = cond (isKind kind.Power e) (eqb (act e .val) 1) (diodeError2 d)
+
+-- temperatures 6: bit 7 of 0x03 is set when the pin goes from high to low
+unfoldable pub pulled : Taken → Bool
+pulled [] = false
+pulled (e ∷ d) =
+    cond (isKind kind.Pin e && (eqb (act e .val) 0 && not (pinLow d))) true
+    (cond (starts e || reads 0x03 (pointer d) e) false (pulled d))
+
+-- ---- which events are accepted
+
+-- what a reply asks of the past
+unfoldable pub standing : Taken → Standing
+standing d = record { on = powered d; address = address d; monitoring = bitOf (storedAt 0x00 d) 0 }
+
+-- every event that was given, with any numbers, the newest first
 abbrev pub History : Type 0
 History = List Event
 
--- an event as plain numbers, for the rules
-abbrev pub act : Event → Act
-act e = actOf (asked e)
-
--- a power-on is an accepted power; that it is accepted does not hang on what came before
-abbrev pub powersUp : Event → Bool
-powersUp e = isKind kind.Power e && accepts (replyOf false 0 false e)
-
-unfoldable pub powered : History → Bool
-powered [] = false
-powered (e ∷ h) = powersUp e || powered h
-
--- the own address, from the last power-on
-unfoldable pub address : History → ℕ
-address [] = 0
-address (e ∷ h) = cond (powersUp e) (natural (numbersOf e .who)) (address h)
-
--- the byte stored at an address; bit 0 of 0x00 is the monitoring that reply 9 asks
-unfoldable pub stored : (address : ℕ) → History → ℕ
-stored a [] = 0
-stored a (e ∷ h) = cond (accepts (replyOf (powered h) (address h) (bitOf (stored 0x00 h) 0) e)) (storedAfter a (act e) (stored a h)) (stored a h)
+unfoldable pub taken : History → Taken
+taken [] = []
+taken (e ∷ h) = cond (accepts (replyOf (standing (taken h)) e)) (e ∷ taken h) (taken h)
 
 -- the reply to the next event
-unfoldable pub reply : Event → History → Answer
-reply e h = replyOf (powered h) (address h) (bitOf (stored 0x00 h) 0) e
-
-unfoldable pub accepted : Event → History → Bool
-accepted e h = accepts (reply e h)
-
--- what an event leaves as it was where it is refused
-abbrev pub unless : {A : Type 0} → Event → History → (now was : A) → A
-unless e h now was = cond (accepted e h) now was
-
--- the pointer, the pin (low from outside), the diode errors (temperatures 5), and bit 7 of 0x03 (temperatures 5, 6, 9)
-unfoldable pub pointer : History → ℕ
-pointer [] = 0
-pointer (e ∷ h) = unless e h (pointerAfter (act e) (pointer h)) (pointer h)
-
-unfoldable pub pinLow : History → Bool
-pinLow [] = false
-pinLow (e ∷ h) = unless e h (lowAfter (act e) (pinLow h)) (pinLow h)
-
-unfoldable pub diodeError1 : History → Bool
-diodeError1 [] = false
-diodeError1 (e ∷ h) = unless e h (error1After (act e) (diodeError1 h)) (diodeError1 h)
-
-unfoldable pub diodeError2 : History → Bool
-diodeError2 [] = false
-diodeError2 (e ∷ h) = unless e h (error2After (act e) (diodeError2 h)) (diodeError2 h)
-
-unfoldable pub pulled : History → Bool
-pulled [] = false
-pulled (e ∷ h) = unless e h (pulledAfter (pinLow h) (pointer h) (act e) (pulled h)) (pulled h)
-
--- the stored bytes by their places
-unfoldable pub limits : ChannelId → History → Limits
-limits c h =
-    record {
-      offset = stored (offsetAt c) h;
-      high = stored (highAt c) h;
-      low = stored (lowAt c) h;
-      therm = stored (thermAt c) h;
-      control = stored (controlAt c) h;
-    }
-
-unfoldable pub fanBytes : FanId → History → FanBytes
-fanBytes f h = record { speed = stored (speedAt f) h; limit = stored (tachLimitAt f) h; characteristics = stored (characteristicsAt f) h }
-
-unfoldable pub settings : History → Settings
-settings h =
-    record {
-      config1 = stored 0x00 h;
-      config2 = stored 0x01 h;
-      test = stored 0x07 h;
-      speeds = stored 0x22 h;
-      filter = stored 0x23 h;
-      behaviour = stored 0x3F h;
-      local = limits Local h;
-      remote1 = limits Remote1 h;
-      remote2 = limits Remote2 h;
-      fan1 = fanBytes One h;
-      fan2 = fanBytes Two h;
-    }
+abbrev pub reply : Event → History → Answer
+reply e h = replyOf (standing (taken h)) e

@@ -3,7 +3,8 @@ pub mod Temperatures
 pub mod Duties
 pub mod Shows
 pub mod Agreement
-pub mod Demand1
+pub mod Page
 pub mod Demand3
-pub mod Readback
 pub mod Bounds
+pub mod Readback
+pub mod Demand1

@@ -1,53 +1,61 @@
--- Document 01, "Temperatures, latches and cards", over the list of events: readings, latches, run flags and status bits of a channel.
+-- Document 01, "Temperatures, latches and cards", over the accepted events: t in eighths, limits in signed degrees.
 use Prim.Native.Nat.{ℕ}
-use mathlib.Core.Bool.{Bool, false, _||_}
+use mathlib.Core.Bool.{Bool, true, false, cond, not, _&&_, _||_}
 use mathlib.Core.List.{[], _∷_}
+use lib.IntN.{ℤ, pos, _*ℤ_}
+use lib.Signed.{ltZ}
 use Rattle.part.specs.declared.ChannelId.{ChannelId}
-use Rattle.part.specs.declared.ChannelId.the-variants.{Local, Remote1, Remote2}
-use Rattle.stored.specs.Stored.{highAt, lowAt, thermAt, controlAt, channelEnabled}
-use Rattle.channel.specs.Channels.{readingAfter, latchAfter, flagAfter, overAfter, underAfter, hotAfter}
-use Rattle.channel.specs.declared.Channel.{Channel}
-use Rattle.channel.specs.declared.Channels.{Channels}
-use Rattle.history.specs.Events.{History, act, stored, unless, pointer}
+use Rattle.reading.specs.Faithful.{degrees, hysteresis}
+use Rattle.demand.specs.Demand.{tminOf}
+use Rattle.stored.specs.Stored.{highAt, lowAt, thermAt, controlAt, statusAt, channelEnabled}
+use Rattle.channel.specs.Channels.{limitBitsIn, thermBitIn}
+use Rattle.part.specs.declared.FanId.{FanId}
+use Rattle.event.specs.declared.Event.{Event}
+use Rattle.history.specs.Events.{Taken, starts, reads, samples, eighths, storedAt, pointer}
 
--- rule 1: the last reading since power or reset, with 1024 added
-unfoldable pub reading : ChannelId → History → ℕ
-reading c [] = 1024
-reading c (e ∷ h) = unless e h (readingAfter c (act e) (reading c h)) (reading c h)
+-- rule 1: the last reading since power or reset
+unfoldable pub temperature : ChannelId → Taken → ℤ
+temperature c [] = pos 0
+temperature c (e ∷ d) = cond (starts e) (pos 0) (cond (samples c e) (eighths e) (temperature c d))
 
--- rule 2: the THERM latch
-unfoldable pub latch : ChannelId → History → Bool
+-- a register that holds signed whole degrees
+abbrev pub limit : (address : ℕ) → Taken → ℤ
+limit a d = degrees (storedAt a d)
+
+-- rule 2: the THERM latch, on if t > 8L, off if t < 8(L - 5), else kept
+unfoldable pub latch : ChannelId → Taken → Bool
 latch c [] = false
-latch c (e ∷ h) = unless e h (latchAfter c (stored (thermAt c) (e ∷ h)) (act e) (latch c h)) (latch c h)
+latch c (e ∷ d) = cond (starts e) false (cond (samples c e) (hysteresis (latch c d) (limit (thermAt c) (e ∷ d)) (eighths e)) (latch c d))
 
--- duty 1: the run flag
-unfoldable pub flag : ChannelId → History → Bool
+-- duty 1: the run flag, on if t > 8 Tmin, off if t < 8(Tmin - 5), else kept
+unfoldable pub flag : ChannelId → Taken → Bool
 flag c [] = false
-flag c (e ∷ h) = unless e h (flagAfter c (stored (controlAt c) (e ∷ h)) (act e) (flag c h)) (flag c h)
+flag c (e ∷ d) =
+    cond (starts e) false (cond (samples c e) (hysteresis (flag c d) (pos (tminOf (storedAt (controlAt c) (e ∷ d)))) (eighths e)) (flag c d))
 
 -- whether the channel's enable bit in 0x01 is set
-abbrev pub enabledChannel : ChannelId → History → Bool
-enabledChannel c h = channelEnabled c (stored 0x01 h)
+abbrev pub enabled : ChannelId → Taken → Bool
+enabled c d = channelEnabled c (storedAt 0x01 d)
 
--- rules 3, 5 and 7: the high, low and THERM status bits
-unfoldable pub highBit : ChannelId → History → Bool
+-- rules 5 and 7: what clears a bit of a channel in a status register
+abbrev pub clears : ChannelId → FanId → Event → Taken → Bool
+clears c f e d = starts e || (reads (statusAt f) (pointer d) e || not (enabled c (e ∷ d)))
+
+-- rule 3: high if t > 8 high, low if t < 8 low, THERM where the latch goes from off to on
+unfoldable pub highBit : ChannelId → Taken → Bool
 highBit c [] = false
-highBit c (e ∷ h) = unless e h (overAfter c (stored (highAt c) (e ∷ h)) (enabledChannel c (e ∷ h)) (pointer h) (act e) (highBit c h)) (highBit c h)
+highBit c (e ∷ d) =
+    cond (samples c e && (enabled c (e ∷ d) && ltZ (pos 8 *ℤ limit (highAt c) (e ∷ d)) (eighths e))) true
+    (cond (clears c (limitBitsIn c) e d) false (highBit c d))
 
-unfoldable pub lowBit : ChannelId → History → Bool
+unfoldable pub lowBit : ChannelId → Taken → Bool
 lowBit c [] = false
-lowBit c (e ∷ h) = unless e h (underAfter c (stored (lowAt c) (e ∷ h)) (enabledChannel c (e ∷ h)) (pointer h) (act e) (lowBit c h)) (lowBit c h)
+lowBit c (e ∷ d) =
+    cond (samples c e && (enabled c (e ∷ d) && ltZ (eighths e) (pos 8 *ℤ limit (lowAt c) (e ∷ d)))) true
+    (cond (clears c (limitBitsIn c) e d) false (lowBit c d))
 
-unfoldable pub thermBit : ChannelId → History → Bool
+unfoldable pub thermBit : ChannelId → Taken → Bool
 thermBit c [] = false
-thermBit c (e ∷ h) = unless e h (hotAfter c (enabledChannel c (e ∷ h)) (latch c h) (latch c (e ∷ h)) (pointer h) (act e) (thermBit c h)) (thermBit c h)
-
-unfoldable pub channel : ChannelId → History → Channel
-channel c h = record { reading = reading c h; latch = latch c h; flag = flag c h; over = highBit c h; under = lowBit c h; hot = thermBit c h }
-
-unfoldable pub channels : History → Channels
-channels h = record { local = channel Local h; remote1 = channel Remote1 h; remote2 = channel Remote2 h }
-
--- rule 2: THERM is asserted while a latch is on; nothing masks it
-unfoldable pub thermAsserted : History → Bool
-thermAsserted h = latch Local h || (latch Remote1 h || latch Remote2 h)
+thermBit c (e ∷ d) =
+    cond (samples c e && (enabled c (e ∷ d) && (not (latch c d) && latch c (e ∷ d)))) true
+    (cond (clears c (thermBitIn c) e d) false (thermBit c d))

@@ -7,69 +7,56 @@ use native.Mathlib.Omega.{arith}
 use native.Mathlib.Nat.{add-zero, zero-add, suc-add}
 use lib.ListN.{length, set, length-set}
 use lib.Seq.{sets}
-use borrow.Author.Tests.{lt-ltb, le-ltb}
+use borrow.Author.Tests.{lt-ltb, le-ltb, ne-eqb}
+use Rattle.event.specs.Answers.{numberOf}
+use Rattle.judge.specs.Plain.{plainOf, bytesOf}
+use Rattle.judge.specs.Replies.{lowest}
+use Rattle.judge.specs.declared.Plain.{Plain}
+use Rattle.judge.specs.declared.Standing.{Standing}
 use Rattle.event.specs.declared.Event.{Event}
 use Rattle.event.specs.declared.Kind.the-variants as kind
 use Rattle.event.specs.declared.Answer.{Answer}
 use Rattle.event.specs.declared.Answer.the-variants.{Done, NoPower, WrongSize}
 use Rattle.event.specs.declared.Shown.{Shown}
-use Rattle.request.specs.Replies.{verdictOf}
-use Rattle.request.specs.declared.Request.{Request}
-use Rattle.request.specs.declared.Verdict.{Verdict}
-use Rattle.request.specs.declared.Verdict.the-variants.{Accept, Refuse}
-use Rattle.act.specs.Acts.{isA, actOf}
-use Rattle.act.specs.declared.Act.{Act}
-use Rattle.stored.specs.declared.Limits.{Limits}
-use Rattle.stored.specs.declared.FanBytes.{FanBytes}
-use Rattle.stored.specs.declared.Settings.{Settings}
+use Rattle.input.specs.Inputs.{isA}
+use Rattle.input.specs.declared.Input.{Input}
+use Rattle.stored.specs.declared.ChannelRegisters.{ChannelRegisters}
+use Rattle.stored.specs.declared.FanRegisters.{FanRegisters}
+use Rattle.stored.specs.declared.Registers.{Registers}
 use Rattle.channel.specs.declared.Channel.{Channel}
 use Rattle.fan.specs.Fans.{stopped}
 use Rattle.fan.specs.declared.Fan.{Fan}
 use Rattle.chip.specs.Chips.{chipAfter}
 use Rattle.chip.specs.declared.Chip.{Chip}
 use Rattle.output.specs.Outputs.{valueAt, shownOf}
-use Rattle.num.specs.Bits.{bitOf}
+use Rattle.integer.specs.Bits.{bitOf}
 use Rattle.buffer.proofs.Laws.{sets-append}
 use Rattle.keeper.specs.declared.Keeper.{Keeper}
 use Rattle.keeper.specs.declared.Keeper.the-variants.{Off, On}
 use Rattle.keeper.specs.declared.Answered.{Answered}
-use Rattle.keeper.specs.Keeping.{blank, noLimits, noBytes, noChannel, dataFor, acceptedBy, decided, answerOf, shownBy, valuesFrom, imageAnswer, imageBuffer}
+use Rattle.keeper.specs.Keeping.{blank, noChannelRegisters, noFanRegisters, noChannel, isOn, chipIn, standingWith, dataFor, acceptedBy, decided, answerOf, shownBy, valuesFrom, imageAnswer, imageBuffer}
 
 -- ---- what power starts from
 
-pub blank-settings : {a b c : Limits} {f g : FanBytes} → a ≡ noLimits → b ≡ noLimits → c ≡ noLimits → f ≡ noBytes → g ≡ noBytes
-    → _≡_ {A = Settings} (record { config1 = 0; config2 = 0; test = 0; speeds = 0; filter = 0; behaviour = 0; local = a; remote1 = b; remote2 = c; fan1 = f; fan2 = g }) (blank .settings)
+pub blank-settings : {a b c : ChannelRegisters} {f g : FanRegisters} → a ≡ noChannelRegisters → b ≡ noChannelRegisters → c ≡ noChannelRegisters → f ≡ noFanRegisters → g ≡ noFanRegisters
+    → _≡_ {A = Registers} (record { config1 = 0; config2 = 0; test = 0; speeds = 0; filter = 0; behaviour = 0; local = a; remote1 = b; remote2 = c; fan1 = f; fan2 = g }) (blank .registers)
 blank-settings p q r s t = rw (p, q, r, s, t)
 
-pub blank-is : {s : Settings} {a b c : Channel} {f g : Fan} → a ≡ noChannel → b ≡ noChannel → c ≡ noChannel → s ≡ blank .settings → f ≡ stopped → g ≡ stopped
-    → _≡_ {A = Chip} (record { front = record { address = 0; pointer = 0; low = false; error1 = false; error2 = false; pulled = false }; settings = s; channels = record { local = a; remote1 = b; remote2 = c }; fan1 = f; fan2 = g }) blank
+pub blank-is : {s : Registers} {a b c : Channel} {f g : Fan} → a ≡ noChannel → b ≡ noChannel → c ≡ noChannel → s ≡ blank .registers → f ≡ stopped → g ≡ stopped
+    → _≡_ {A = Chip} (record { port = record { address = 0; pointer = 0; low = false; error1 = false; error2 = false; pulled = false }; registers = s; channels = record { local = a; remote1 = b; remote2 = c }; fan1 = f; fan2 = g }) blank
 blank-is p q r s t u = rw (p, q, r, s, t, u)
 
 -- ---- one event
 
-module _ (c : Chip) (a : Act) {t : Bool} (is : t ≡ isA kind.Read a) where
-  pub data-read : {v : ℕ} → t ≡ true → v ≡ valueAt c (c .front .pointer) → v ≡ dataFor c a
+module _ (c : Chip) (a : Input) {t : Bool} (is : t ≡ isA kind.Read a) where
+  pub data-read : {v : ℕ} → t ≡ true → v ≡ valueAt c (c .port .pointer) → v ≡ dataFor c a
   data-read p e = rw (sym is ∙ p) e
 
   pub data-none : t ≡ false → 0 ≡ dataFor c a
   data-none p = rw (sym is ∙ p)
 
-pub accept-is : (c : Chip) (a : Act) {x : Chip} {d : ℕ} → d ≡ dataFor c a → x ≡ chipAfter a c → _≡_ {A = Answered} (record { keeper = On x; answer = Done d }) (acceptedBy c a)
+pub accept-is : (c : Chip) (a : Input) {x : Chip} {d : ℕ} → d ≡ dataFor c a → x ≡ chipAfter a c → _≡_ {A = Answered} (record { keeper = On x; answer = Done d }) (acceptedBy c a)
 accept-is c a p q = rw (p, q)
-
-pub decide-refused : (k : Keeper) (c : Chip) {v : Verdict} {a : Answer} → v ≡ Refuse a → _≡_ {A = Answered} (record { keeper = k; answer = a }) (decided k c v)
-decide-refused k c p = rw p
-
-pub decide-accepted : (k : Keeper) (c : Chip) {v : Verdict} {r : Request} {a : Act} {x : Answered} → v ≡ Accept r → a ≡ actOf r → x ≡ acceptedBy c a → x ≡ decided k c v
-decide-accepted k c p q e = rw p (e ∙ ap (acceptedBy c) q)
-
-pub step-off : {k : Keeper} (e : Event) {b : Chip} {v : Verdict} {x : Answered} → k ≡ Off → b ≡ blank → v ≡ verdictOf false 0 false e → x ≡ decided Off b v → x ≡ answerOf k e
-unfolding answerOf
-step-off e p q r s = rw p (s ∙ rw (q, r))
-
-pub step-on : {k : Keeper} (e : Event) {c : Chip} {m : Bool} {v : Verdict} {x : Answered} → k ≡ On c → m ≡ bitOf (c .settings .config1) 0 → v ≡ verdictOf true (c .front .address) m e → x ≡ decided (On c) c v → x ≡ answerOf k e
-unfolding answerOf
-step-on e p q r s = rw p (s ∙ rw (r, q))
 
 -- ---- what is shown
 
@@ -130,3 +117,22 @@ module _ {k : Keeper} (d : List ℕ) where
     pub buffer-done : {d′ : List ℕ} → 64 ≤ length d → d′ ≡ sets d 0 (valuesFrom 0 64 c) → d′ ≡ imageBuffer k d
     unfolding imageBuffer
     buffer-done h e = rw (p, le-ltb (length d) 64 h) e
+
+-- ---- one event
+
+pub chip-on : {k : Keeper} {c : Chip} → k ≡ On c → c ≡ chipIn k
+chip-on p = rw p
+
+pub standing-is : (on : Bool) (c : Chip) {m : Bool} → m ≡ bitOf (c .registers .config1) 0 → _≡_ {A = Standing} (record { on = on; address = c .port .address; monitoring = m }) (standingWith on c)
+standing-is on c q = rw q
+
+pub decide-done : (k : Keeper) (c : Chip) (p : Plain) (a : Answer) {n : ℕ} {b : Input} {x : Answered} → n ≡ numberOf a → n ≡ 0 → b ≡ bytesOf p → x ≡ acceptedBy c b → x ≡ decided k c p a
+decide-done k c p a q z r e = rw (sym q ∙ z) (e ∙ ap (acceptedBy c) r)
+
+pub decide-not : (k : Keeper) (c : Chip) (p : Plain) (a : Answer) {n : ℕ} → n ≡ numberOf a → (n ≡ 0 → ⊥) → _≡_ {A = Answered} (record { keeper = k; answer = a }) (decided k c p a)
+decide-not k c p a q z = rw (ne-eqb (numberOf a) 0 (λ y. z (q ∙ y)))
+
+pub step-is : (k : Keeper) (e : Event) {c : Chip} {p : Plain} {on : Bool} {s : Standing} {a : Answer} {x : Answered}
+    → c ≡ chipIn k → p ≡ plainOf e → on ≡ isOn k → s ≡ standingWith on c → a ≡ lowest s p → x ≡ decided k c p a → x ≡ answerOf k e
+unfolding answerOf
+step-is k e q r t u v w = w ∙ rw (v, u, t, q, r)

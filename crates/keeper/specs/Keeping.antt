@@ -1,6 +1,6 @@
 -- The keeper: off, or a chip that has power. What each event is answered, and what is shown.
 use Prim.Native.Nat.{ℕ, zero, suc}
-use mathlib.Core.Bool.{true, false, cond}
+use mathlib.Core.Bool.{Bool, true, false, cond}
 use mathlib.Core.List.{List, [], _∷_}
 use lib.Dec.{ltb}
 use lib.ListN.{length}
@@ -10,14 +10,15 @@ use Rattle.event.specs.declared.Kind.the-variants as kind
 use Rattle.event.specs.declared.Answer.{Answer}
 use Rattle.event.specs.declared.Answer.the-variants.{Done, NoPower, WrongSize}
 use Rattle.event.specs.declared.Shown.{Shown}
-use Rattle.request.specs.Replies.{verdictOf}
-use Rattle.request.specs.declared.Verdict.{Verdict}
-use Rattle.request.specs.declared.Verdict.the-variants.{Accept, Refuse}
-use Rattle.act.specs.Acts.{isA, actOf}
-use Rattle.act.specs.declared.Act.{Act}
+use Rattle.judge.specs.Plain.{plainOf, bytesOf}
+use Rattle.judge.specs.Replies.{lowest, accepts}
+use Rattle.judge.specs.declared.Plain.{Plain}
+use Rattle.judge.specs.declared.Standing.{Standing}
+use Rattle.input.specs.Inputs.{isA}
+use Rattle.input.specs.declared.Input.{Input}
 use Rattle.stored.specs.Stored.{monitors}
-use Rattle.stored.specs.declared.Limits.{Limits}
-use Rattle.stored.specs.declared.FanBytes.{FanBytes}
+use Rattle.stored.specs.declared.ChannelRegisters.{ChannelRegisters}
+use Rattle.stored.specs.declared.FanRegisters.{FanRegisters}
 use Rattle.channel.specs.declared.Channel.{Channel}
 use Rattle.fan.specs.Fans.{stopped}
 use Rattle.chip.specs.Chips.{chipAfter}
@@ -27,21 +28,21 @@ use Rattle.keeper.specs.declared.Keeper.{Keeper}
 use Rattle.keeper.specs.declared.Keeper.the-variants.{Off, On}
 use Rattle.keeper.specs.declared.Answered.{Answered}
 
--- what power starts from: it starts afresh, whatever was, and sets each of these
-abbrev pub noLimits : Limits
-noLimits = record { offset = 0; high = 0; low = 0; therm = 0; control = 0 }
+-- a chip that never had power: its bytes and readings are 0, a reading held with 1024 added
+abbrev pub noChannelRegisters : ChannelRegisters
+noChannelRegisters = record { offset = 0; high = 0; low = 0; therm = 0; control = 0 }
 
-abbrev pub noBytes : FanBytes
-noBytes = record { speed = 0; limit = 0; characteristics = 0 }
+abbrev pub noFanRegisters : FanRegisters
+noFanRegisters = record { speed = 0; limit = 0; characteristics = 0 }
 
 abbrev pub noChannel : Channel
-noChannel = record { reading = 0; latch = false; flag = false; over = false; under = false; hot = false }
+noChannel = record { reading = 1024; latch = false; flag = false; over = false; under = false; hot = false }
 
 abbrev pub blank : Chip
 blank =
     record {
-      front = record { address = 0; pointer = 0; low = false; error1 = false; error2 = false; pulled = false };
-      settings =
+      port = record { address = 0; pointer = 0; low = false; error1 = false; error2 = false; pulled = false };
+      registers =
           record {
             config1 = 0;
             config2 = 0;
@@ -49,11 +50,11 @@ blank =
             speeds = 0;
             filter = 0;
             behaviour = 0;
-            local = noLimits;
-            remote1 = noLimits;
-            remote2 = noLimits;
-            fan1 = noBytes;
-            fan2 = noBytes;
+            local = noChannelRegisters;
+            remote1 = noChannelRegisters;
+            remote2 = noChannelRegisters;
+            fan1 = noFanRegisters;
+            fan2 = noFanRegisters;
           };
       channels = record { local = noChannel; remote1 = noChannel; remote2 = noChannel };
       fan1 = stopped;
@@ -61,20 +62,34 @@ blank =
     }
 
 -- only a read returns data: that of the register at the pointer
-abbrev pub dataFor : Chip → Act → ℕ
-dataFor c a = cond (isA kind.Read a) (output.valueAt c (c .front .pointer)) 0
+abbrev pub dataFor : Chip → Input → ℕ
+dataFor c a = cond (isA kind.Read a) (output.valueAt c (c .port .pointer)) 0
 
-abbrev pub acceptedBy : Chip → Act → Answered
+abbrev pub acceptedBy : Chip → Input → Answered
 acceptedBy c a = record { keeper = On (chipAfter a c); answer = Done (dataFor c a) }
 
+-- a keeper that never had power has a chip too: the one before the first event
+abbrev pub isOn : Keeper → Bool
+isOn Off = false
+isOn (On c) = true
+
+abbrev pub chipIn : Keeper → Chip
+chipIn Off = blank
+chipIn (On c) = c
+
+-- what a reply asks of it
+abbrev pub standingWith : (on : Bool) → Chip → Standing
+standingWith on c = record { on = on; address = c .port .address; monitoring = monitors (c .registers) }
+
+abbrev pub standingOf : Keeper → Standing
+standingOf k = standingWith (isOn k) (chipIn k)
+
 -- a refusal leaves the keeper; else the chip moves
-abbrev pub decided : Keeper → Chip → Verdict → Answered
-decided k c (Refuse a) = record { keeper = k; answer = a }
-decided k c (Accept r) = acceptedBy c (actOf r)
+abbrev pub decided : Keeper → Chip → Plain → Answer → Answered
+decided k c p a = cond (accepts a) (acceptedBy c (bytesOf p)) (record { keeper = k; answer = a })
 
 unfoldable pub answerOf : Keeper → Event → Answered
-answerOf Off e = decided Off blank (verdictOf false 0 false e)
-answerOf (On c) e = decided (On c) c (verdictOf true (c .front .address) (monitors (c .settings)) e)
+answerOf k e = decided k (chipIn k) (plainOf e) (lowest (standingOf k) (plainOf e))
 
 -- before the first power all outputs are 0
 unfoldable pub shownBy : Keeper → Shown

@@ -2,20 +2,20 @@
 use channel::Channel;
 use channel::Channels;
 use chip::Chip;
-use chip::Front;
+use chip::Port;
 use drive::Drive;
 use fan::Fan;
-use stored::FanBytes;
-use stored::Limits;
-use stored::Settings;
+use stored::ChannelRegisters;
+use stored::FanRegisters;
+use stored::Registers;
 ghost use mathlib.Core.Path.{_≡_};
 ghost use Rattle.fan.specs.Fans.{stopped};
-ghost use Rattle.keeper.specs.Keeping.{blank, noLimits, noBytes, noChannel};
+ghost use Rattle.keeper.specs.Keeping.{blank, noChannelRegisters, noFanRegisters, noChannel};
 
-pub fn no_limits() -> Limits
-    ensures { λ r. ⌜ r ≡ noLimits ⌝ }
+pub fn no_channel_registers() -> ChannelRegisters
+    ensures { λ r. ⌜ r ≡ noChannelRegisters ⌝ }
 {
-    Limits {
+    ChannelRegisters {
         offset: 0,
         high: 0,
         low: 0,
@@ -24,10 +24,10 @@ pub fn no_limits() -> Limits
     }
 }
 
-pub fn no_bytes() -> FanBytes
-    ensures { λ r. ⌜ r ≡ noBytes ⌝ }
+pub fn no_fan_registers() -> FanRegisters
+    ensures { λ r. ⌜ r ≡ noFanRegisters ⌝ }
 {
-    FanBytes {
+    FanRegisters {
         speed: 0,
         limit: 0,
         characteristics: 0,
@@ -38,7 +38,7 @@ pub fn no_channel() -> Channel
     ensures { λ r. ⌜ r ≡ noChannel ⌝ }
 {
     Channel {
-        reading: 0,
+        reading: 1024,
         latch: false,
         flag: false,
         over: false,
@@ -59,28 +59,28 @@ pub fn no_fan() -> Fan
     }
 }
 
-pub fn no_settings() -> Settings
-    ensures { λ r. ⌜ r ≡ blank .settings ⌝ }
+pub fn no_registers() -> Registers
+    ensures { λ r. ⌜ r ≡ blank .registers ⌝ }
 {
-    Settings {
+    Registers {
         config1: 0,
         config2: 0,
         test: 0,
         speeds: 0,
         filter: 0,
         behaviour: 0,
-        local: no_limits(),
-        remote1: no_limits(),
-        remote2: no_limits(),
-        fan1: no_bytes(),
-        fan2: no_bytes(),
+        local: no_channel_registers(),
+        remote1: no_channel_registers(),
+        remote2: no_channel_registers(),
+        fan1: no_fan_registers(),
+        fan2: no_fan_registers(),
     }
 }
 
 pub fn blank_chip() -> Chip
     ensures { λ r. ⌜ r ≡ blank ⌝ }
 {
-    let front = Front {
+    let port = Port {
         address: 0,
         pointer: 0,
         low: false,
@@ -94,8 +94,8 @@ pub fn blank_chip() -> Chip
         remote2: no_channel(),
     };
     Chip {
-        front,
-        settings: no_settings(),
+        port,
+        registers: no_registers(),
         channels,
         fan1: no_fan(),
         fan2: no_fan(),

@@ -2,18 +2,19 @@
 // A keeper goes in by value and comes back by value.
 mod blank;
 
-use act::Act;
 use chip::Chip;
 use event::Answer;
 use event::Event;
 use event::Kind;
 use event::Shown;
-use request::Verdict;
+use input::Input;
+use judge::Plain;
+use judge::Standing;
 ghost use mathlib.Core.Path.{_≡_};
 ghost use Prim.Native.Nat.{_≤_};
 ghost use lib.ListN.{length};
 ghost use lib.Seq.{sets};
-ghost use Rattle.keeper.specs.Keeping.{dataFor, acceptedBy, decided, answerOf, shownBy, valuesFrom, imageAnswer, imageBuffer};
+ghost use Rattle.keeper.specs.Keeping.{isOn, chipIn, standingWith, dataFor, acceptedBy, decided, answerOf, shownBy, valuesFrom, imageAnswer, imageBuffer};
 
 pub enum Keeper {
     Off,
@@ -38,17 +39,17 @@ impl Keeper {
 // ---- one event
 
 // Only a read returns data.
-fn data_for(c: Chip, a: Act) -> u8
+fn data_for(c: Chip, a: Input) -> u8
     ensures { λ r. ⌜ r ≡ dataFor c a ⌝ }
 {
-    if act::is_a(Kind::Read, a) {
-        output::value_at(c, c.front.pointer)
+    if input::is_a(Kind::Read, a) {
+        output::value_at(c, c.port.pointer)
     } else {
         0
     }
 }
 
-fn accept(c: Chip, a: Act) -> Answered
+fn accept(c: Chip, a: Input) -> Answered
     ensures { λ r. ⌜ r ≡ acceptedBy c a ⌝ }
 {
     let data = data_for(c, a);
@@ -58,12 +59,44 @@ fn accept(c: Chip, a: Act) -> Answered
     }
 }
 
-fn decide(k: Keeper, c: Chip, v: Verdict) -> Answered
-    ensures { λ r. ⌜ r ≡ decided k c v ⌝ }
+fn is_on(k: Keeper) -> bool
+    ensures { λ r. ⌜ r ≡ isOn k ⌝ }
 {
-    match v {
-        Verdict::Refuse(answer) => Answered { keeper: k, answer },
-        Verdict::Accept(r) => accept(c, act::act_of(r)),
+    match k {
+        Keeper::Off => false,
+        Keeper::On(_) => true,
+    }
+}
+
+fn chip_in(k: Keeper) -> Chip
+    ensures { λ r. ⌜ r ≡ chipIn k ⌝ }
+{
+    match k {
+        Keeper::Off => blank::blank_chip(),
+        Keeper::On(c) => c,
+    }
+}
+
+fn standing(on: bool, c: Chip) -> Standing
+    ensures { λ r. ⌜ r ≡ standingWith on c ⌝ }
+{
+    Standing {
+        on,
+        address: c.port.address,
+        monitoring: integer::bit(c.registers.config1, 0),
+    }
+}
+
+fn decide(k: Keeper, c: Chip, p: Plain, a: Answer) -> Answered
+    ensures { λ r. ⌜ r ≡ decided k c p a ⌝ }
+{
+    if event::number_of(a) == 0 {
+        accept(c, judge::bytes_of(p))
+    } else {
+        Answered {
+            keeper: k,
+            answer: a,
+        }
     }
 }
 
@@ -71,17 +104,10 @@ fn decide(k: Keeper, c: Chip, v: Verdict) -> Answered
 pub fn step(k: Keeper, e: Event) -> Answered
     ensures { λ r. ⌜ r ≡ answerOf k e ⌝ }
 {
-    match k {
-        Keeper::Off => decide(
-            Keeper::Off,
-            blank::blank_chip(),
-            request::judge(false, 0, false, e),
-        ),
-        Keeper::On(c) => {
-            let verdict = request::judge(true, c.front.address, num::bit(c.settings.config1, 0), e);
-            decide(Keeper::On(c), c, verdict)
-        }
-    }
+    let c = chip_in(k);
+    let p = judge::plain_of(e);
+    let a = judge::reply(standing(is_on(k), c), p);
+    decide(k, c, p, a)
 }
 
 // ---- what is shown

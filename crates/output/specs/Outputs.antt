@@ -2,7 +2,7 @@
 use Prim.Native.Nat.{ℕ, _+_}
 use mathlib.Core.Bool.{Bool, cond, _&&_, _||_}
 use lib.Dec.{eqb}
-use Rattle.num.specs.Bits.{bitOf, flagOf}
+use Rattle.integer.specs.Bits.{bitOf, flagOf}
 use Rattle.part.specs.declared.ChannelId.{ChannelId}
 use Rattle.part.specs.declared.ChannelId.the-variants.{Local, Remote1, Remote2}
 use Rattle.part.specs.declared.FanId.{FanId}
@@ -16,21 +16,21 @@ use Rattle.register.specs.declared.Found.{Found}
 use Rattle.register.specs.declared.Found.the-variants.{At, Nowhere}
 use Rattle.channel.specs.Channels.{thermOf}
 use Rattle.stored.specs.Stored.{channelEnabled}
-use Rattle.stored.specs.declared.Limits.{Limits}
-use Rattle.stored.specs.declared.FanBytes.{FanBytes}
-use Rattle.stored.specs.declared.Settings.{Settings}
+use Rattle.stored.specs.declared.ChannelRegisters.{ChannelRegisters}
+use Rattle.stored.specs.declared.FanRegisters.{FanRegisters}
+use Rattle.stored.specs.declared.Registers.{Registers}
 use Rattle.channel.specs.declared.Channel.{Channel}
 use Rattle.channel.specs.declared.Channels.{Channels}
 use Rattle.chip.specs.declared.Chip.{Chip}
 
-abbrev pub limitsOf : Settings → ChannelId → Limits
-limitsOf s Local = s .local
-limitsOf s Remote1 = s .remote1
-limitsOf s Remote2 = s .remote2
+abbrev pub channelRegistersOf : Registers → ChannelId → ChannelRegisters
+channelRegistersOf s Local = s .local
+channelRegistersOf s Remote1 = s .remote1
+channelRegistersOf s Remote2 = s .remote2
 
-abbrev pub fanBytesOf : Settings → FanId → FanBytes
-fanBytesOf s One = s .fan1
-fanBytesOf s Two = s .fan2
+abbrev pub fanRegistersOf : Registers → FanId → FanRegisters
+fanRegistersOf s One = s .fan1
+fanRegistersOf s Two = s .fan2
 
 abbrev pub channelIn : Channels → ChannelId → Channel
 channelIn cs Local = cs .local
@@ -49,35 +49,35 @@ packed b0 b1 b2 b3 b4 b5 b6 b7 =
 unfoldable pub statusOf : FanId → Chip → ℕ
 statusOf One k =
     packed (k .fan1 .alarm) (k .fan1 .fault)
-    (k .channels .remote1 .over) (k .channels .remote1 .under) (k .channels .remote1 .hot) (k .front .error1)
+    (k .channels .remote1 .over) (k .channels .remote1 .under) (k .channels .remote1 .hot) (k .port .error1)
     (k .channels .local .over) (k .channels .local .under)
 statusOf Two k =
     packed (k .fan2 .alarm) (k .fan2 .fault)
-    (k .channels .remote2 .over) (k .channels .remote2 .under) (k .channels .remote2 .hot) (k .front .error2)
-    (k .channels .local .hot) (k .front .pulled)
+    (k .channels .remote2 .over) (k .channels .remote2 .under) (k .channels .remote2 .hot) (k .port .error2)
+    (k .channels .local .hot) (k .port .pulled)
 
 -- what a read of a register returns
 unfoldable pub valueOf : Chip → Register → ℕ
-valueOf k register.Config1 = k .settings .config1
-valueOf k register.Config2 = k .settings .config2
+valueOf k register.Config1 = k .registers .config1
+valueOf k register.Config2 = k .registers .config2
 valueOf k (register.Status f) = statusOf f k
 valueOf k register.Extended =
     extendedOf (remainderOf (k .channels .local .reading)) (remainderOf (k .channels .remote1 .reading)) (remainderOf (k .channels .remote2 .reading))
-valueOf k register.Test = k .settings .test
-valueOf k (register.Speed f) = fanBytesOf (k .settings) f .speed
+valueOf k register.Test = k .registers .test
+valueOf k (register.Speed f) = fanRegistersOf (k .registers) f .speed
 valueOf k (register.Value c) = byteOf (channelIn (k .channels) c .reading)
-valueOf k (register.Offset c) = limitsOf (k .settings) c .offset
-valueOf k (register.TachLimit f) = fanBytesOf (k .settings) f .limit
-valueOf k (register.High c) = limitsOf (k .settings) c .high
-valueOf k (register.Low c) = limitsOf (k .settings) c .low
-valueOf k (register.Therm c) = limitsOf (k .settings) c .therm
-valueOf k (register.Characteristics f) = fanBytesOf (k .settings) f .characteristics
-valueOf k register.Speeds = k .settings .speeds
-valueOf k register.Filter = k .settings .filter
-valueOf k (register.Control c) = limitsOf (k .settings) c .control
+valueOf k (register.Offset c) = channelRegistersOf (k .registers) c .offset
+valueOf k (register.TachLimit f) = fanRegistersOf (k .registers) f .limit
+valueOf k (register.High c) = channelRegistersOf (k .registers) c .high
+valueOf k (register.Low c) = channelRegistersOf (k .registers) c .low
+valueOf k (register.Therm c) = channelRegistersOf (k .registers) c .therm
+valueOf k (register.Characteristics f) = fanRegistersOf (k .registers) f .characteristics
+valueOf k register.Speeds = k .registers .speeds
+valueOf k register.Filter = k .registers .filter
+valueOf k (register.Control c) = channelRegistersOf (k .registers) c .control
 valueOf k register.Device = 0x31
 valueOf k register.Company = 0x41
-valueOf k register.Behaviour = k .settings .behaviour
+valueOf k register.Behaviour = k .registers .behaviour
 
 -- 0 where there is no register
 abbrev pub foundValue : Chip → Found → ℕ
@@ -95,16 +95,16 @@ unfoldable pub pendingOf : Chip → Bool
 pendingOf k =
     (k .fan1 .alarm || k .fan1 .fault) || ((k .fan2 .alarm || k .fan2 .fault)
     || (marked (k .channels .local) || (marked (k .channels .remote1) || (marked (k .channels .remote2)
-    || ((k .front .error1 && channelEnabled Remote1 (k .settings .config2)) || ((k .front .error2 && channelEnabled Remote2 (k .settings .config2))
-    || k .front .pulled))))))
+    || ((k .port .error1 && channelEnabled Remote1 (k .registers .config2)) || ((k .port .error2 && channelEnabled Remote2 (k .registers .config2))
+    || k .port .pulled))))))
 
 -- INT, THERM and FAN_FAULT as 1 while asserted, else 0
 unfoldable pub shownOf : Chip → Shown
 shownOf k =
     record {
-      int = flagOf (bitOf (k .settings .config1) 1 && pendingOf k);
+      int = flagOf (bitOf (k .registers .config1) 1 && pendingOf k);
       therm = flagOf (thermOf (k .channels));
-      fault = flagOf (bitOf (k .settings .config1) 4 && (eqb (k .fan1 .run) 5 || eqb (k .fan2 .run) 5));
+      fault = flagOf (bitOf (k .registers .config1) 4 && (eqb (k .fan1 .run) 5 || eqb (k .fan2 .run) 5));
       duty1 = k .fan1 .drive .duty;
       duty2 = k .fan2 .drive .duty;
     }

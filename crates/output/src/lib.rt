@@ -8,15 +8,15 @@ use part::ChannelId;
 use part::FanId;
 use register::Found;
 use register::Register;
-use stored::FanBytes;
-use stored::Limits;
-use stored::Settings;
+use stored::ChannelRegisters;
+use stored::FanRegisters;
+use stored::Registers;
 ghost use mathlib.Core.Path.{_≡_};
 ghost use Prim.Native.Nat.{_≤_};
-ghost use Rattle.output.specs.Outputs.{limitsOf, fanBytesOf, channelIn, bitAt, packed, statusOf, valueOf, valueAt, marked, pendingOf, shownOf};
+ghost use Rattle.output.specs.Outputs.{channelRegistersOf, fanRegistersOf, channelIn, bitAt, packed, statusOf, valueOf, valueAt, marked, pendingOf, shownOf};
 
-fn limits_of(s: Settings, c: ChannelId) -> Limits
-    ensures { λ r. ⌜ r ≡ limitsOf s c ⌝ }
+fn channel_registers_of(s: Registers, c: ChannelId) -> ChannelRegisters
+    ensures { λ r. ⌜ r ≡ channelRegistersOf s c ⌝ }
 {
     match c {
         ChannelId::Local => s.local,
@@ -25,8 +25,8 @@ fn limits_of(s: Settings, c: ChannelId) -> Limits
     }
 }
 
-fn fan_bytes_of(s: Settings, f: FanId) -> FanBytes
-    ensures { λ r. ⌜ r ≡ fanBytesOf s f ⌝ }
+fn fan_registers_of(s: Registers, f: FanId) -> FanRegisters
+    ensures { λ r. ⌜ r ≡ fanRegistersOf s f ⌝ }
 {
     match f {
         FanId::One => s.fan1,
@@ -76,7 +76,7 @@ fn status(f: FanId, k: Chip) -> u8
             k.channels.remote1.over,
             k.channels.remote1.under,
             k.channels.remote1.hot,
-            k.front.error1,
+            k.port.error1,
             k.channels.local.over,
             k.channels.local.under,
         ),
@@ -86,9 +86,9 @@ fn status(f: FanId, k: Chip) -> u8
             k.channels.remote2.over,
             k.channels.remote2.under,
             k.channels.remote2.hot,
-            k.front.error2,
+            k.port.error2,
             k.channels.local.hot,
-            k.front.pulled,
+            k.port.pulled,
         ),
     }
 }
@@ -98,29 +98,29 @@ fn value(k: Chip, r: Register) -> u8
     ensures { λ b. ⌜ b ≡ valueOf k r ⌝ }
 {
     match r {
-        Register::Config1 => k.settings.config1,
-        Register::Config2 => k.settings.config2,
+        Register::Config1 => k.registers.config1,
+        Register::Config2 => k.registers.config2,
         Register::Status(f) => status(f, k),
         Register::Extended => reading::extended(
             k.channels.local.reading,
             k.channels.remote1.reading,
             k.channels.remote2.reading,
         ),
-        Register::Test => k.settings.test,
-        Register::Speed(f) => fan_bytes_of(k.settings, f).speed,
+        Register::Test => k.registers.test,
+        Register::Speed(f) => fan_registers_of(k.registers, f).speed,
         Register::Value(c) => reading::byte_of(channel_in(k.channels, c).reading),
-        Register::Offset(c) => limits_of(k.settings, c).offset,
-        Register::TachLimit(f) => fan_bytes_of(k.settings, f).limit,
-        Register::High(c) => limits_of(k.settings, c).high,
-        Register::Low(c) => limits_of(k.settings, c).low,
-        Register::Therm(c) => limits_of(k.settings, c).therm,
-        Register::Characteristics(f) => fan_bytes_of(k.settings, f).characteristics,
-        Register::Speeds => k.settings.speeds,
-        Register::Filter => k.settings.filter,
-        Register::Control(c) => limits_of(k.settings, c).control,
+        Register::Offset(c) => channel_registers_of(k.registers, c).offset,
+        Register::TachLimit(f) => fan_registers_of(k.registers, f).limit,
+        Register::High(c) => channel_registers_of(k.registers, c).high,
+        Register::Low(c) => channel_registers_of(k.registers, c).low,
+        Register::Therm(c) => channel_registers_of(k.registers, c).therm,
+        Register::Characteristics(f) => fan_registers_of(k.registers, f).characteristics,
+        Register::Speeds => k.registers.speeds,
+        Register::Filter => k.registers.filter,
+        Register::Control(c) => channel_registers_of(k.registers, c).control,
         Register::Device => 0x31,
         Register::Company => 0x41,
-        Register::Behaviour => k.settings.behaviour,
+        Register::Behaviour => k.registers.behaviour,
     }
 }
 
@@ -146,22 +146,22 @@ fn is_marked(c: Channel) -> bool
 fn pending(k: Chip) -> bool
     ensures { λ b. ⌜ b ≡ pendingOf k ⌝ }
 {
-    let error1 = k.front.error1 & stored::channel_enabled(ChannelId::Remote1, k.settings.config2);
-    let error2 = k.front.error2 & stored::channel_enabled(ChannelId::Remote2, k.settings.config2);
+    let error1 = k.port.error1 & stored::channel_enabled(ChannelId::Remote1, k.registers.config2);
+    let error2 = k.port.error2 & stored::channel_enabled(ChannelId::Remote2, k.registers.config2);
     let channels = is_marked(k.channels.local)
         | (is_marked(k.channels.remote1)
-            | (is_marked(k.channels.remote2) | (error1 | (error2 | k.front.pulled))));
+            | (is_marked(k.channels.remote2) | (error1 | (error2 | k.port.pulled))));
     (k.fan1.alarm | k.fan1.fault) | ((k.fan2.alarm | k.fan2.fault) | channels)
 }
 
 pub fn shown(k: Chip) -> Shown
     ensures { λ r. ⌜ r ≡ shownOf k ⌝ }
 {
-    let fault = num::bit(k.settings.config1, 4) & ((k.fan1.run == 5) | (k.fan2.run == 5));
+    let fault = integer::bit(k.registers.config1, 4) & ((k.fan1.run == 5) | (k.fan2.run == 5));
     Shown {
-        int: num::flag(num::bit(k.settings.config1, 1) & pending(k)),
-        therm: num::flag(channel::therm(k.channels)),
-        fault: num::flag(fault),
+        int: integer::flag(integer::bit(k.registers.config1, 1) & pending(k)),
+        therm: integer::flag(channel::therm(k.channels)),
+        fault: integer::flag(fault),
         duty1: k.fan1.drive.duty,
         duty2: k.fan2.drive.duty,
     }

@@ -7,8 +7,8 @@ use native.Mathlib.Omega.{arith}
 use native.Mathlib.Nat.{sub-zero}
 use lib.Dec.{leb}
 use lib.ListN.{length, length-append}
-use Rattle.num.proofs.BoolLaws.{by-cases}
-use Rattle.num.specs.Bits.{flagOf}
+use Rattle.integer.proofs.BoolLaws.{by-cases}
+use Rattle.integer.specs.Bits.{flagOf}
 use Rattle.event.specs.Kinds.{isKind}
 use Rattle.event.specs.Answers.{numberOf, dataOf}
 use Rattle.event.specs.declared.Answer.{Answer}
@@ -17,15 +17,15 @@ use Rattle.event.specs.declared.Event.{Event}
 use Rattle.event.specs.declared.Kind.the-variants as kind
 use Rattle.part.specs.declared.FanId.the-variants.{One, Two}
 use Rattle.decimal.proofs.Laws.{decimal-width}
-use Rattle.request.specs.Replies.{accepts}
+use Rattle.judge.specs.Replies.{accepts}
 use Rattle.trace.specs.Trace.{eventAt}
 use Rattle.trace.specs.declared.Reading.{Reading}
 use Rattle.trace.specs.declared.Reading.the-variants as reading
 use Rattle.trace.proofs.Onward.{onward, wrong-place}
 use Rattle.report.specs.Report.{entryText}
 use Rattle.measure.proofs.Laws.{reply-length-as, pin-length, duty-length, entry-length, malformed-length}
-use Rattle.history.specs.Events.{History, accepted, reply, pointer}
-use Rattle.history.specs.Temperatures.{thermAsserted}
+use Rattle.history.specs.Events.{History, taken, reply, pointer}
+use Rattle.history.specs.Duties.{thermAsserted}
 use Rattle.history.specs.Shows.{answer, intAsserted, faultAsserted, shown}
 use Rattle.history.proofs.BoundsLaws.{bounds}
 use Rattle.player.specs.Report.{outcome, lines, reportFrom, reportOf, Bounded}
@@ -65,24 +65,24 @@ flag-small true = omega arith
 flag-small false = omega arith
 
 data-small : (e : Event) (h : History) → dataOf (answer e h) < 1000
-unfolding answer accepted
+unfolding answer
 data-small e h =
     by-cases (accepts (reply e h))
-    (λ y. rw y (by-cases (isKind kind.Read e) (λ r. rw r (omega (arith, bounds h .byte (pointer h)))) (λ r. rw r (omega arith))))
+    (λ y. rw y (by-cases (isKind kind.Read e) (λ r. rw r (omega (arith, bounds (taken h) .byte (pointer (taken h))))) (λ r. rw r (omega arith))))
     (λ n. rw n (omega (arith, refusal-data (reply e h) n)))
 
 entry-small : (e : Event) (h : History) → length (entryText (outcome e h)) ≤ 68
 unfolding shown
 entry-small e h =
     let a = answer e h in
-    let s = shown (e ∷ h) in
+    let s = shown (taken (e ∷ h)) in
     let number = decimal-width 2 (numberOf a) (number-small a) in
     let read = decimal-width 2 (dataOf a) (data-small e h) in
-    let int = decimal-width 2 (s .int) (flag-small (intAsserted (e ∷ h))) in
-    let therm = decimal-width 2 (s .therm) (flag-small (thermAsserted (e ∷ h))) in
-    let fault = decimal-width 2 (s .fault) (flag-small (faultAsserted (e ∷ h))) in
-    let duty1 = decimal-width 2 (s .duty1) (omega (arith, bounds (e ∷ h) .slots One)) in
-    let duty2 = decimal-width 2 (s .duty2) (omega (arith, bounds (e ∷ h) .slots Two)) in
+    let int = decimal-width 2 (s .int) (flag-small (intAsserted (taken (e ∷ h)))) in
+    let therm = decimal-width 2 (s .therm) (flag-small (thermAsserted (taken (e ∷ h)))) in
+    let fault = decimal-width 2 (s .fault) (flag-small (faultAsserted (taken (e ∷ h)))) in
+    let duty1 = decimal-width 2 (s .duty1) (omega (arith, bounds (taken (e ∷ h)) .slots One)) in
+    let duty2 = decimal-width 2 (s .duty2) (omega (arith, bounds (taken (e ∷ h)) .slots Two)) in
     omega (arith, entry-length (outcome e h), reply-length-as a refl refl, pin-length s, duty-length s)
 
 -- ---- the report

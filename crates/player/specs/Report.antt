@@ -14,12 +14,12 @@ use Rattle.report.specs.Report.{entryText, malformedText, tooLongText}
 use Rattle.buffer.specs.Put.{putOf, heldOf}
 use Rattle.buffer.specs.declared.Put.{Put}
 use Rattle.buffer.specs.declared.Put.the-variants.{Refused}
-use Rattle.history.specs.Events.{History}
+use Rattle.history.specs.Events.{History, taken}
 use Rattle.history.specs.Shows.{answer, shown}
 
 -- what the rules say of the next event: its answer, and the outputs after it
 abbrev pub outcome : Event → History → Outcome
-outcome e h = record { answer = answer e h; shown = shown (e ∷ h) }
+outcome e h = record { answer = answer e h; shown = shown (taken (e ∷ h)) }
 
 -- what stands in the report for what was read: the event's lines and the rest, or the ending
 abbrev pub lines : Reading → (line : ℕ) → History → (rest : ℕ → History → List ℕ) → List ℕ

@@ -7,12 +7,12 @@ use borrow.Author.Tests.{ltb-true, ltb-false, lt-ltb, le-ltb}
 use lib.Dec.{ltb}
 use lib.IntN.{ℤ, pos, negsuc, _+ℤ_, _-ℤ_, _*ℤ_, subℕ}
 use lib.Signed.{ltZ}
-use Rattle.num.specs.Range.{eighthsOf}
-use Rattle.num.specs.declared.Ranged.the-variants.{In, Out}
+use Rattle.integer.specs.Range.{eighthsOf}
+use Rattle.integer.specs.declared.Ranged.the-variants.{In, Out}
 use Rattle.reading.specs.Reading.{byteOf, remainderOf}
-use Rattle.reading.specs.Limits.{tminEdgeOf, heldOf}
+use Rattle.reading.specs.Limits.{tminEdgeOf, hysteresisOf}
 use Rattle.reading.proofs.Laws.{lossless}
-use Rattle.reading.specs.Faithful.{degrees, heldZ, Faithful}
+use Rattle.reading.specs.Faithful.{degrees, hysteresis, Faithful}
 
 -- z is n - k
 unfoldable Lifted : (k n : ℕ) → ℤ → Type 0
@@ -120,7 +120,7 @@ module _ (t : ℤ) (r : ℕ) (e : eighthsOf t ≡ In r) (z : ℤ) (base : ℕ) (
       (shift 40 1024 r t (lift-reading t r e .0))
       (times-eight 133 base (z -ℤ pos 5) (less-five 128 base z at))
 
-  held-is : (on : Bool) → heldOf on (8 * base) r ≡ heldZ on z t
+  held-is : (on : Bool) → hysteresisOf on (8 * base) r ≡ hysteresis on z t
   held-is on = rw (above, far-beneath)
 
 pub faithful : (t : ℤ) (r : ℕ) → eighthsOf t ≡ In r → Faithful t r
@@ -131,7 +131,7 @@ faithful t r e =
       latch = λ on limit h. held-is t r e (degrees limit) _ (lift-byte limit h) on;
       high = λ limit h. above t r e (degrees limit) _ (lift-byte limit h);
       low = λ limit h. beneath t r e (degrees limit) _ (lift-byte limit h);
-      flag = λ on tmin. ap (λ (k : ℕ). heldOf on k r) (edge-is tmin) ∙ held-is t r e (pos tmin) (128 + tmin) (plain tmin) on;
+      flag = λ on tmin. ap (λ (k : ℕ). hysteresisOf on k r) (edge-is tmin) ∙ held-is t r e (pos tmin) (128 + tmin) (plain tmin) on;
     }
   where
     plain : (tmin : ℕ) → Lifted 128 (128 + tmin) (pos tmin)

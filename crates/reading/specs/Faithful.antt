@@ -15,8 +15,8 @@ abbrev pub degrees : ℕ → ℤ
 degrees byte = cond (ltb byte 128) (pos byte) (negsuc (255 - byte))
 
 -- on above 8 limit, off below 8(limit - 5), else kept
-abbrev pub heldZ : Bool → (limit t : ℤ) → Bool
-heldZ on limit t = cond (ltZ (pos 8 *ℤ limit) t) true (cond (ltZ t (pos 8 *ℤ (limit -ℤ pos 5))) false on)
+abbrev pub hysteresis : Bool → (limit t : ℤ) → Bool
+hysteresis on limit t = cond (ltZ (pos 8 *ℤ limit) t) true (cond (ltZ t (pos 8 *ℤ (limit -ℤ pos 5))) false on)
 
 -- What is held as `reading` stands for t.
 pub record Faithful (t : ℤ) (reading : ℕ) : Type 0 where
@@ -24,12 +24,12 @@ pub record Faithful (t : ℤ) (reading : ℕ) : Type 0 where
   pub small : remainderOf reading < 8
   pub split : t ≡ (pos 8 *ℤ degrees (byteOf reading)) +ℤ pos (remainderOf reading)
   -- temperatures 2, for every limit byte
-  pub latch : (on : Bool) (limit : ℕ) → limit < 256 → latchedOf on limit reading ≡ heldZ on (degrees limit) t
+  pub latch : (on : Bool) (limit : ℕ) → limit < 256 → latchedOf on limit reading ≡ hysteresis on (degrees limit) t
   -- temperatures 3
   pub high : (limit : ℕ) → limit < 256 → overOf limit reading ≡ ltZ (pos 8 *ℤ degrees limit) t
   pub low : (limit : ℕ) → limit < 256 → underOf limit reading ≡ ltZ t (pos 8 *ℤ degrees limit)
   -- duty 1, for every Tmin
-  pub flag : (on : Bool) (tmin : ℕ) → runningOf on tmin reading ≡ heldZ on (pos tmin) t
+  pub flag : (on : Bool) (tmin : ℕ) → runningOf on tmin reading ≡ hysteresis on (pos tmin) t
 
 -- a channel's own of three
 abbrev pub chosen : ChannelId → (local remote1 remote2 : ℕ) → ℕ

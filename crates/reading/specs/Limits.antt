@@ -13,16 +13,16 @@ abbrev pub tminEdgeOf : (tmin : ℕ) → ℕ
 tminEdgeOf tmin = 8 * tmin + 1024
 
 -- on above the edge, off more than five degrees (40 eighths) below it, else kept
-abbrev pub heldOf : Bool → (edge reading : ℕ) → Bool
-heldOf on edge reading = cond (ltb edge reading) true (cond (ltb (reading + 40) edge) false on)
+abbrev pub hysteresisOf : Bool → (edge reading : ℕ) → Bool
+hysteresisOf on edge reading = cond (ltb edge reading) true (cond (ltb (reading + 40) edge) false on)
 
 -- temperatures 2: the latch turns on if t > 8L, off if t < 8(L - 5)
 abbrev pub latchedOf : Bool → (limit reading : ℕ) → Bool
-latchedOf on limit reading = heldOf on (edgeOf limit) reading
+latchedOf on limit reading = hysteresisOf on (edgeOf limit) reading
 
 -- duty 1: the run flag turns on if t > 8 Tmin, off if t < 8(Tmin - 5)
 abbrev pub runningOf : Bool → (tmin reading : ℕ) → Bool
-runningOf on tmin reading = heldOf on (tminEdgeOf tmin) reading
+runningOf on tmin reading = hysteresisOf on (tminEdgeOf tmin) reading
 
 -- temperatures 3: t > 8 high, t < 8 low
 abbrev pub overOf : (limit reading : ℕ) → Bool

@@ -4,7 +4,7 @@ use part::ChannelId;
 ghost use mathlib.Core.Path.{_≡_};
 ghost use Prim.Native.Nat.{_+_, _*_};
 ghost use Rattle.reading.specs.Reading.{byteOf, remainderOf, readingOf, extendedOf, remainderIn};
-ghost use Rattle.reading.specs.Limits.{edgeOf, heldOf, latchedOf, runningOf, overOf, underOf};
+ghost use Rattle.reading.specs.Limits.{edgeOf, hysteresisOf, latchedOf, runningOf, overOf, underOf};
 
 // ---- readings and bytes
 
@@ -55,7 +55,7 @@ fn edge(limit: u8) -> u32
 
 // On above the edge, off more than five degrees below it, else as it was.
 fn held(on: bool, edge: u32, reading: u16) -> bool
-    ensures { λ r. ⌜ r ≡ heldOf on edge reading ⌝ }
+    ensures { λ r. ⌜ r ≡ hysteresisOf on edge reading ⌝ }
 {
     if edge < reading as u32 {
         return true;

@@ -11,10 +11,10 @@ use lib.ListN.{getD}
 use mir.Syntax.{w32}
 use mir.Val.{toZ, ofZ, SFits}
 use mir.ValLaws.{toZ-ofZ}
-use Rattle.num.proofs.BoolLaws.{either, both}
-use Rattle.num.specs.Range.{belowOf}
-use Rattle.num.specs.declared.Ranged.{Ranged}
-use Rattle.num.specs.declared.Ranged.the-variants.{In, Out}
+use Rattle.integer.proofs.BoolLaws.{either, both}
+use Rattle.integer.specs.Range.{belowOf}
+use Rattle.integer.specs.declared.Ranged.{Ranged}
+use Rattle.integer.specs.declared.Ranged.the-variants.{In, Out}
 use Rattle.register.specs.Table.{Row, says, table, registerAt, registerOf, existsAt, maskAt, resetAt}
 use Rattle.register.specs.declared.Register.{Register}
 use Rattle.register.specs.declared.Found.{Found}

@@ -1,6 +1,6 @@
 // The register table of the chip: which addresses there are, by name, with write mask and byte after power.
 // A number becomes a register here and nowhere else.
-use num::Ranged;
+use integer::Ranged;
 use part::ChannelId;
 use part::FanId;
 ghost use mathlib.Core.Path.{_≡_};
@@ -172,7 +172,7 @@ pub fn reset_at(a: u8) -> u8
 pub fn register_of(v: i32) -> Found
     ensures { λ r. ⌜ r ≡ registerOf v ⌝ }
 {
-    match num::below(v, 256) {
+    match integer::below(v, 256) {
         Ranged::In(n) => register_at((n % 256) as u8),
         Ranged::Out => Found::Nowhere,
     }

@@ -13,9 +13,9 @@ use borrow.Author.Tests.{ne-eqb, eq-eqb, le-leb, lt-leb}
 use mir.Syntax.{w32, w64}
 use mir.Val.{Fits, SFits, toZ, ofZ}
 use mir.ValLaws.{toZ-ofZ}
-use Rattle.num.specs.Range.{belowOf}
-use Rattle.num.specs.declared.Ranged.{Ranged}
-use Rattle.num.specs.declared.Ranged.the-variants.{In, Out}
+use Rattle.integer.specs.Range.{belowOf}
+use Rattle.integer.specs.declared.Ranged.{Ranged}
+use Rattle.integer.specs.declared.Ranged.the-variants.{In, Out}
 use Rattle.event.specs.Kinds.{kinds, eventOf}
 use Rattle.event.specs.declared.Kind.{Kind}
 use Rattle.event.specs.declared.Kind.the-variants as kind

@@ -6,9 +6,9 @@ use lib.Dec.{eqb, leb}
 use lib.IntN.{ℤ, pos}
 use lib.ListN.{length, getD}
 use lib.Seq.{sets}
-use Rattle.num.specs.Range.{belowOf}
-use Rattle.num.specs.declared.Ranged.{Ranged}
-use Rattle.num.specs.declared.Ranged.the-variants.{In, Out}
+use Rattle.integer.specs.Range.{belowOf}
+use Rattle.integer.specs.declared.Ranged.{Ranged}
+use Rattle.integer.specs.declared.Ranged.the-variants.{In, Out}
 use Rattle.event.specs.Kinds.{kinds, eventOf}
 use Rattle.event.specs.Answers.{numberOf, dataOf}
 use Rattle.event.specs.declared.Kind.the-variants as kind

@@ -6,8 +6,8 @@ use event::Event;
 use event::Kind;
 use event::Numbers;
 use event::Outcome;
+use integer::Ranged;
 use keeper::Keeper;
-use num::Ranged;
 ghost use mathlib.Core.Path.{_≡_};
 ghost use Prim.Native.Nat.{_+_, _*_, _≤_};
 ghost use lib.ListN.{length, getD};
@@ -42,7 +42,7 @@ fn kind_at(place: u16) -> Kind
 fn event_from(kind: i32, n: Numbers) -> Taken
     ensures { λ r. ⌜ r ≡ eventFrom kind n ⌝ }
 {
-    match num::below(kind, 9) {
+    match integer::below(kind, 9) {
         Ranged::In(place) => {
             let e = event::event_of(kind_at(place), n);
             Taken::Event(e)

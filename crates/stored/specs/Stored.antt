@@ -2,18 +2,18 @@
 use Prim.Native.Nat.{ℕ}
 use mathlib.Core.Bool.{Bool, cond, not, _&&_, _||_}
 use lib.Dec.{eqb}
-use Rattle.num.specs.Bits.{bitOf, mergedOf}
+use Rattle.integer.specs.Bits.{bitOf, mergedOf}
 use Rattle.register.specs.Table.{maskAt, resetAt}
 use Rattle.part.specs.declared.ChannelId.{ChannelId}
 use Rattle.part.specs.declared.ChannelId.the-variants.{Local, Remote1, Remote2}
 use Rattle.part.specs.declared.FanId.{FanId}
 use Rattle.part.specs.declared.FanId.the-variants.{One, Two}
 use Rattle.event.specs.declared.Kind.the-variants as kind
-use Rattle.act.specs.declared.Act.{Act}
-use Rattle.act.specs.Acts.{isA, measures, fresh, writes}
-use Rattle.stored.specs.declared.Limits.{Limits}
-use Rattle.stored.specs.declared.FanBytes.{FanBytes}
-use Rattle.stored.specs.declared.Settings.{Settings}
+use Rattle.input.specs.declared.Input.{Input}
+use Rattle.input.specs.Inputs.{isA, measures, restarts, writes}
+use Rattle.stored.specs.declared.ChannelRegisters.{ChannelRegisters}
+use Rattle.stored.specs.declared.FanRegisters.{FanRegisters}
+use Rattle.stored.specs.declared.Registers.{Registers}
 
 -- addresses of the registers that come in twos and threes (Table 17 of 000)
 abbrev pub offsetAt : ChannelId → ℕ
@@ -58,22 +58,22 @@ statusAt One = 0x02
 statusAt Two = 0x03
 
 -- a count for the speed register at an address
-abbrev pub counts : (address : ℕ) → Act → Bool
+abbrev pub counts : (address : ℕ) → Input → Bool
 counts address r = (eqb address (speedAt One) && measures One r) || (eqb address (speedAt Two) && measures Two r)
 
 -- the byte stored at an address: its reset byte; what is written, read-only bits keeping theirs (below the reply table); a fan's count (tach counts)
-unfoldable pub storedAfter : (address : ℕ) → Act → ℕ → ℕ
+unfoldable pub storedAfter : (address : ℕ) → Input → ℕ → ℕ
 storedAfter address r was =
-    cond (fresh r) (resetAt address)
+    cond (restarts r) (resetAt address)
     (cond (writes address r) (mergedOf (maskAt address) was (r .val))
     (cond (counts address r) (r .val) was))
 
 -- an event that stores nothing
-abbrev pub idle : Act → Bool
-idle r = not (fresh r || (isA kind.Write r || isA kind.Tach r))
+abbrev pub idle : Input → Bool
+idle r = not (restarts r || (isA kind.Write r || isA kind.Tach r))
 
-unfoldable pub limitsAfter : ChannelId → Act → Limits → Limits
-limitsAfter c r l =
+unfoldable pub channelRegistersAfter : ChannelId → Input → ChannelRegisters → ChannelRegisters
+channelRegistersAfter c r l =
     record {
       offset = storedAfter (offsetAt c) r (l .offset);
       high = storedAfter (highAt c) r (l .high);
@@ -82,16 +82,16 @@ limitsAfter c r l =
       control = storedAfter (controlAt c) r (l .control);
     }
 
-unfoldable pub fanBytesAfter : FanId → Act → FanBytes → FanBytes
-fanBytesAfter f r b =
+unfoldable pub fanRegistersAfter : FanId → Input → FanRegisters → FanRegisters
+fanRegistersAfter f r b =
     record {
       speed = storedAfter (speedAt f) r (b .speed);
       limit = storedAfter (tachLimitAt f) r (b .limit);
       characteristics = storedAfter (characteristicsAt f) r (b .characteristics);
     }
 
-unfoldable pub settingsAfter : Act → Settings → Settings
-settingsAfter r s =
+unfoldable pub registersAfter : Input → Registers → Registers
+registersAfter r s =
     record {
       config1 = storedAfter 0x00 r (s .config1);
       config2 = storedAfter 0x01 r (s .config2);
@@ -99,15 +99,15 @@ settingsAfter r s =
       speeds = storedAfter 0x22 r (s .speeds);
       filter = storedAfter 0x23 r (s .filter);
       behaviour = storedAfter 0x3F r (s .behaviour);
-      local = limitsAfter Local r (s .local);
-      remote1 = limitsAfter Remote1 r (s .remote1);
-      remote2 = limitsAfter Remote2 r (s .remote2);
-      fan1 = fanBytesAfter One r (s .fan1);
-      fan2 = fanBytesAfter Two r (s .fan2);
+      local = channelRegistersAfter Local r (s .local);
+      remote1 = channelRegistersAfter Remote1 r (s .remote1);
+      remote2 = channelRegistersAfter Remote2 r (s .remote2);
+      fan1 = fanRegistersAfter One r (s .fan1);
+      fan2 = fanRegistersAfter Two r (s .fan2);
     }
 
 -- bits of 0x00 and 0x01 (Tables 18 and 19)
-abbrev pub monitors : Settings → Bool
+abbrev pub monitors : Registers → Bool
 monitors s = bitOf (s .config1) 0
 
 abbrev pub outputEnabled : FanId → ℕ → Bool

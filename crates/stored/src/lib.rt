@@ -2,15 +2,15 @@
 // A byte is known by its address in the register table.
 mod addresses;
 
-use act::Act;
 use event::Kind;
+use input::Input;
 use part::ChannelId;
 use part::FanId;
 ghost use mathlib.Core.Path.{_≡_};
-ghost use Rattle.stored.specs.Stored.{speedAt, statusAt, counts, storedAfter, idle, limitsAfter, fanBytesAfter, settingsAfter, outputEnabled, tachEnabled, channelEnabled, filterEnabled};
+ghost use Rattle.stored.specs.Stored.{speedAt, statusAt, counts, storedAfter, idle, channelRegistersAfter, fanRegistersAfter, registersAfter, outputEnabled, tachEnabled, channelEnabled, filterEnabled};
 
 // The bytes of a channel's registers.
-pub struct Limits {
+pub struct ChannelRegisters {
     pub offset: u8,
     pub high: u8,
     pub low: u8,
@@ -19,24 +19,24 @@ pub struct Limits {
 }
 
 // The bytes of a fan's registers.
-pub struct FanBytes {
+pub struct FanRegisters {
     pub speed: u8,
     pub limit: u8,
     pub characteristics: u8,
 }
 
-pub struct Settings {
+pub struct Registers {
     pub config1: u8,
     pub config2: u8,
     pub test: u8,
     pub speeds: u8,
     pub filter: u8,
     pub behaviour: u8,
-    pub local: Limits,
-    pub remote1: Limits,
-    pub remote2: Limits,
-    pub fan1: FanBytes,
-    pub fan2: FanBytes,
+    pub local: ChannelRegisters,
+    pub remote1: ChannelRegisters,
+    pub remote2: ChannelRegisters,
+    pub fan1: FanRegisters,
+    pub fan2: FanRegisters,
 }
 
 // ---- addresses
@@ -61,30 +61,30 @@ pub fn status_at(f: FanId) -> u8
 
 // ---- bytes after an event
 
-fn is_count_at(address: u8, r: Act) -> bool
+fn is_count_at(address: u8, r: Input) -> bool
     ensures { λ b. ⌜ b ≡ counts address r ⌝ }
 {
-    ((address == speed_at(FanId::One)) & act::is_count(FanId::One, r))
-        | ((address == speed_at(FanId::Two)) & act::is_count(FanId::Two, r))
+    ((address == speed_at(FanId::One)) & input::is_count(FanId::One, r))
+        | ((address == speed_at(FanId::Two)) & input::is_count(FanId::Two, r))
 }
 
 // The byte at an address.
-pub fn stored_after(address: u8, r: Act, was: u8) -> u8
+pub fn stored_after(address: u8, r: Input, was: u8) -> u8
     ensures { λ b. ⌜ b ≡ storedAfter address r was ⌝ }
 {
-    if act::is_fresh(r) {
+    if input::is_restart(r) {
         return register::reset_at(address);
     }
-    if act::is_write(address, r) {
-        return num::merged(register::mask_at(address), was, r.val);
+    if input::is_write(address, r) {
+        return integer::merged(register::mask_at(address), was, r.val);
     }
     if is_count_at(address, r) { r.val } else { was }
 }
 
-fn limits_after(c: ChannelId, r: Act, l: Limits) -> Limits
-    ensures { λ b. ⌜ b ≡ limitsAfter c r l ⌝ }
+fn channel_registers_after(c: ChannelId, r: Input, l: ChannelRegisters) -> ChannelRegisters
+    ensures { λ b. ⌜ b ≡ channelRegistersAfter c r l ⌝ }
 {
-    Limits {
+    ChannelRegisters {
         offset: stored_after(addresses::offset_at(c), r, l.offset),
         high: stored_after(addresses::high_at(c), r, l.high),
         low: stored_after(addresses::low_at(c), r, l.low),
@@ -93,10 +93,10 @@ fn limits_after(c: ChannelId, r: Act, l: Limits) -> Limits
     }
 }
 
-fn fan_bytes_after(f: FanId, r: Act, b: FanBytes) -> FanBytes
-    ensures { λ d. ⌜ d ≡ fanBytesAfter f r b ⌝ }
+fn fan_registers_after(f: FanId, r: Input, b: FanRegisters) -> FanRegisters
+    ensures { λ d. ⌜ d ≡ fanRegistersAfter f r b ⌝ }
 {
-    FanBytes {
+    FanRegisters {
         speed: stored_after(speed_at(f), r, b.speed),
         limit: stored_after(addresses::tach_limit_at(f), r, b.limit),
         characteristics: stored_after(addresses::characteristics_at(f), r, b.characteristics),
@@ -104,28 +104,28 @@ fn fan_bytes_after(f: FanId, r: Act, b: FanBytes) -> FanBytes
 }
 
 // An event that stores nothing: no start afresh, no write, no count.
-pub fn stores_nothing(r: Act) -> bool
+pub fn stores_nothing(r: Input) -> bool
     ensures { λ b. ⌜ b ≡ idle r ⌝ }
 {
-    !(act::is_fresh(r) | (act::is_a(Kind::Write, r) | act::is_a(Kind::Tach, r)))
+    !(input::is_restart(r) | (input::is_a(Kind::Write, r) | input::is_a(Kind::Tach, r)))
 }
 
 // Every byte.
-pub fn settings_after(r: Act, s: Settings) -> Settings
-    ensures { λ b. ⌜ b ≡ settingsAfter r s ⌝ }
+pub fn registers_after(r: Input, s: Registers) -> Registers
+    ensures { λ b. ⌜ b ≡ registersAfter r s ⌝ }
 {
-    Settings {
+    Registers {
         config1: stored_after(0x00, r, s.config1),
         config2: stored_after(0x01, r, s.config2),
         test: stored_after(0x07, r, s.test),
         speeds: stored_after(0x22, r, s.speeds),
         filter: stored_after(0x23, r, s.filter),
         behaviour: stored_after(0x3F, r, s.behaviour),
-        local: limits_after(ChannelId::Local, r, s.local),
-        remote1: limits_after(ChannelId::Remote1, r, s.remote1),
-        remote2: limits_after(ChannelId::Remote2, r, s.remote2),
-        fan1: fan_bytes_after(FanId::One, r, s.fan1),
-        fan2: fan_bytes_after(FanId::Two, r, s.fan2),
+        local: channel_registers_after(ChannelId::Local, r, s.local),
+        remote1: channel_registers_after(ChannelId::Remote1, r, s.remote1),
+        remote2: channel_registers_after(ChannelId::Remote2, r, s.remote2),
+        fan1: fan_registers_after(FanId::One, r, s.fan1),
+        fan2: fan_registers_after(FanId::Two, r, s.fan2),
     }
 }
 
@@ -135,8 +135,8 @@ pub fn output_enabled(f: FanId, config2: u8) -> bool
     ensures { λ b. ⌜ b ≡ outputEnabled f config2 ⌝ }
 {
     match f {
-        FanId::One => num::bit(config2, 0),
-        FanId::Two => num::bit(config2, 1),
+        FanId::One => integer::bit(config2, 0),
+        FanId::Two => integer::bit(config2, 1),
     }
 }
 
@@ -144,8 +144,8 @@ pub fn tach_enabled(f: FanId, config2: u8) -> bool
     ensures { λ b. ⌜ b ≡ tachEnabled f config2 ⌝ }
 {
     match f {
-        FanId::One => num::bit(config2, 2),
-        FanId::Two => num::bit(config2, 3),
+        FanId::One => integer::bit(config2, 2),
+        FanId::Two => integer::bit(config2, 3),
     }
 }
 
@@ -153,9 +153,9 @@ pub fn channel_enabled(c: ChannelId, config2: u8) -> bool
     ensures { λ b. ⌜ b ≡ channelEnabled c config2 ⌝ }
 {
     match c {
-        ChannelId::Local => num::bit(config2, 4),
-        ChannelId::Remote1 => num::bit(config2, 5),
-        ChannelId::Remote2 => num::bit(config2, 6),
+        ChannelId::Local => integer::bit(config2, 4),
+        ChannelId::Remote1 => integer::bit(config2, 5),
+        ChannelId::Remote2 => integer::bit(config2, 6),
     }
 }
 
@@ -163,7 +163,7 @@ pub fn filter_enabled(f: FanId, filter: u8) -> bool
     ensures { λ b. ⌜ b ≡ filterEnabled f filter ⌝ }
 {
     match f {
-        FanId::One => num::bit(filter, 0),
-        FanId::Two => num::bit(filter, 1),
+        FanId::One => integer::bit(filter, 0),
+        FanId::Two => integer::bit(filter, 1),
     }
 }

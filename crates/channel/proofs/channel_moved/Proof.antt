@@ -12,18 +12,18 @@ reading-after-requires c κs = search needs
 flag-after-requires : tie.Need-flag-after-requires
 flag-after-requires c κs = search needs
 
-over-after-requires : tie.Need-over-after-requires
-over-after-requires c κs = search needs
+high-bit-after-requires : tie.Need-high-bit-after-requires
+high-bit-after-requires c κs = search needs
 
-under-after-requires : tie.Need-under-after-requires
-under-after-requires c κs = search needs
+low-bit-after-requires : tie.Need-low-bit-after-requires
+low-bit-after-requires c κs = search needs
 
-hot-after-requires : tie.Need-hot-after-requires
-hot-after-requires c κs = search needs
+therm-bit-after-requires : tie.Need-therm-bit-after-requires
+therm-bit-after-requires c κs = search needs
 
 returns : tie.Need-returns
 unfolding channelAfter
-returns c = rw (c .hot-after .ensures, c .before .under-after .ensures, c .before .before .over-after .ensures, c .before .before .before .flag-after .ensures, c .before .before .before .before .reading-after .ensures, c .before .before .before .before .before .latch-after .ensures)
+returns c = rw (c .therm-bit-after .ensures, c .before .low-bit-after .ensures, c .before .before .high-bit-after .ensures, c .before .before .before .flag-after .ensures, c .before .before .before .before .reading-after .ensures, c .before .before .before .before .before .latch-after .ensures)
 
 pub channel-moved-spec : {M : Type 1} → statement M
 channel-moved-spec =
@@ -32,7 +32,7 @@ channel-moved-spec =
     latch-after-requires
     reading-after-requires
     flag-after-requires
-    over-after-requires
-    under-after-requires
-    hot-after-requires
+    high-bit-after-requires
+    low-bit-after-requires
+    therm-bit-after-requires
     returns)

@@ -3,8 +3,8 @@ use borrow.Author.Needs.{needs}
 use Rattle.channel.proofs.flag_after.Statement.{statement}
 use Rattle.channel.proofs.flag_after.Tie as tie
 
-is-fresh-requires : tie.Need-is-fresh-requires
-is-fresh-requires c κs = search needs
+is-restart-requires : tie.Need-is-restart-requires
+is-restart-requires c κs = search needs
 
 is-sample-requires : tie.Need-is-sample-requires
 is-sample-requires c κs = search needs
@@ -29,7 +29,7 @@ pub flag-after-spec : {M : Type 1} → statement M
 flag-after-spec =
     tie.close
     (tie.spec
-    is-fresh-requires
+    is-restart-requires
     is-sample-requires
     tmin-requires
     measured-requires

@@ -3,8 +3,8 @@ use borrow.Author.Needs.{needs}
 use Rattle.channel.proofs.latch_after.Statement.{statement}
 use Rattle.channel.proofs.latch_after.Tie as tie
 
-is-fresh-requires : tie.Need-is-fresh-requires
-is-fresh-requires c κs = search needs
+is-restart-requires : tie.Need-is-restart-requires
+is-restart-requires c κs = search needs
 
 is-sample-requires : tie.Need-is-sample-requires
 is-sample-requires c κs = search needs
@@ -26,7 +26,7 @@ pub latch-after-spec : {M : Type 1} → statement M
 latch-after-spec =
     tie.close
     (tie.spec
-    is-fresh-requires
+    is-restart-requires
     is-sample-requires
     measured-requires
     latched-requires

@@ -2,8 +2,8 @@ use borrow.Author.Needs.{needs}
 use Rattle.channel.proofs.passes_by.Statement.{statement}
 use Rattle.channel.proofs.passes_by.Tie as tie
 
-is-fresh-requires : tie.Need-is-fresh-requires
-is-fresh-requires c κs = search needs
+is-restart-requires : tie.Need-is-restart-requires
+is-restart-requires c κs = search needs
 
 is-sample-requires : tie.Need-is-sample-requires
 is-sample-requires c κs = search needs
@@ -15,4 +15,4 @@ returns : tie.Need-returns
 returns c = cc
 
 pub passes-by-spec : {M : Type 1} → statement M
-passes-by-spec = tie.close (tie.spec is-fresh-requires is-sample-requires is-a-requires returns)
+passes-by-spec = tie.close (tie.spec is-restart-requires is-sample-requires is-a-requires returns)

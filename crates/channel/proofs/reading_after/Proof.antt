@@ -1,10 +1,10 @@
-use Rattle.channel.proofs.Laws.{reading-fresh, reading-sampled, reading-kept}
+use Rattle.channel.proofs.Laws.{reading-restart, reading-sampled, reading-kept}
 use borrow.Author.Needs.{needs}
 use Rattle.channel.proofs.reading_after.Statement.{statement}
 use Rattle.channel.proofs.reading_after.Tie as tie
 
-is-fresh-requires : tie.Need-is-fresh-requires
-is-fresh-requires c κs = search needs
+is-restart-requires : tie.Need-is-restart-requires
+is-restart-requires c κs = search needs
 
 is-sample-requires : tie.Need-is-sample-requires
 is-sample-requires c κs = search needs
@@ -13,7 +13,7 @@ measured-requires : tie.Need-measured-requires
 measured-requires c κs = search needs
 
 returns : tie.Need-returns
-returns c = search reading-fresh
+returns c = search reading-restart
 
 returns-2 : tie.Need-returns-2
 returns-2 c = search reading-sampled
@@ -24,4 +24,4 @@ returns-3 c = search reading-kept
 pub reading-after-spec : {M : Type 1} → statement M
 reading-after-spec =
     tie.close
-    (tie.spec is-fresh-requires is-sample-requires measured-requires returns returns-2 returns-3)
+    (tie.spec is-restart-requires is-sample-requires measured-requires returns returns-2 returns-3)

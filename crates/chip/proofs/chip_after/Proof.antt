@@ -14,15 +14,15 @@ returns : tie.Need-returns
 unfolding chipAfter
 returns c = rw (c .chip-under .ensures, ← kept _ _ (c .before .before .stores-nothing .ensures) (c .before .if1 .taken))
 
-settings-after-requires : tie.Need-settings-after-requires
-settings-after-requires c κs = search needs
+registers-after-requires : tie.Need-registers-after-requires
+registers-after-requires c κs = search needs
 
 chip-under-requires-2 : tie.Need-chip-under-requires-2
 chip-under-requires-2 c κs = search needs
 
 returns-2 : tie.Need-returns-2
 unfolding chipAfter
-returns-2 c = rw (c .chip-under2 .ensures, c .before .settings-after .ensures)
+returns-2 c = rw (c .chip-under2 .ensures, c .before .registers-after .ensures)
 
 pub chip-after-spec : {M : Type 1} → statement M
 chip-after-spec =
@@ -30,7 +30,7 @@ chip-after-spec =
     (tie.spec
     stores-nothing-requires
     chip-under-requires
-    settings-after-requires
+    registers-after-requires
     chip-under-requires-2
     returns
     returns-2)

@@ -6,16 +6,16 @@ use Rattle.chip.proofs.chip_under.Tie as tie
 channels-after-requires : tie.Need-channels-after-requires
 channels-after-requires c κs = search needs
 
-front-after-requires : tie.Need-front-after-requires
-front-after-requires c κs = search needs
+port-after-requires : tie.Need-port-after-requires
+port-after-requires c κs = search needs
 
 chip-with-requires : tie.Need-chip-with-requires
 chip-with-requires c κs = search needs
 
 returns : tie.Need-returns
 unfolding chipUnder
-returns c = rw (c .chip-with .ensures, c .before .front-after .ensures, c .before .before .channels-after .ensures)
+returns c = rw (c .chip-with .ensures, c .before .port-after .ensures, c .before .before .channels-after .ensures)
 
 pub chip-under-spec : {M : Type 1} → statement M
 chip-under-spec =
-    tie.close (tie.spec channels-after-requires front-after-requires chip-with-requires returns)
+    tie.close (tie.spec channels-after-requires port-after-requires chip-with-requires returns)

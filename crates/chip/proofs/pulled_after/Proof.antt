@@ -5,8 +5,8 @@ use Rattle.chip.proofs.pulled_after.Tie as tie
 is-a-requires : tie.Need-is-a-requires
 is-a-requires c κs = search needs
 
-is-fresh-requires : tie.Need-is-fresh-requires
-is-fresh-requires c κs = search needs
+is-restart-requires : tie.Need-is-restart-requires
+is-restart-requires c κs = search needs
 
 status-at-requires : tie.Need-status-at-requires
 status-at-requires c κs = search needs
@@ -14,19 +14,19 @@ status-at-requires c κs = search needs
 is-read-requires : tie.Need-is-read-requires
 is-read-requires c κs = search needs
 
-mark-after-requires : tie.Need-mark-after-requires
-mark-after-requires c κs = search needs
+bit-after-requires : tie.Need-bit-after-requires
+bit-after-requires c κs = search needs
 
 returns : tie.Need-returns
-returns c = rw (c .mark-after .ensures, c .before .is-read .ensures, c .before .before .status-at .ensures, c .before .before .before .is-fresh .ensures, c .before .before .before .before .before .is-a .ensures)
+returns c = rw (c .bit-after .ensures, c .before .is-read .ensures, c .before .before .status-at .ensures, c .before .before .before .is-restart .ensures, c .before .before .before .before .before .is-a .ensures)
 
 pub pulled-after-spec : {M : Type 1} → statement M
 pulled-after-spec =
     tie.close
     (tie.spec
     is-a-requires
-    is-fresh-requires
+    is-restart-requires
     status-at-requires
     is-read-requires
-    mark-after-requires
+    bit-after-requires
     returns)

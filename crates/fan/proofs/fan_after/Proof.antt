@@ -15,8 +15,8 @@ status-at-requires c κs = search needs
 is-read-requires : tie.Need-is-read-requires
 is-read-requires c κs = search needs
 
-beat-requires : tie.Need-beat-requires
-beat-requires c κs = search needs
+fan-input-requires : tie.Need-fan-input-requires
+fan-input-requires c κs = search needs
 
 driven-requires : tie.Need-driven-requires
 driven-requires c κs = search needs
@@ -27,15 +27,15 @@ judges-requires c κs = search needs
 run-after-requires : tie.Need-run-after-requires
 run-after-requires c κs = search needs
 
-mark-after-requires : tie.Need-mark-after-requires
-mark-after-requires c κs = search needs
+bit-after-requires : tie.Need-bit-after-requires
+bit-after-requires c κs = search needs
 
-mark-after-requires-2 : tie.Need-mark-after-requires-2
-mark-after-requires-2 c κs = search needs
+bit-after-requires-2 : tie.Need-bit-after-requires-2
+bit-after-requires-2 c κs = search needs
 
 returns : tie.Need-returns
 unfolding fanAfter
-returns c = rw (c .mark-after2 .ensures, c .before .mark-after .ensures, c .before .before .before .run-after .ensures, c .before .before .before .before .judges .ensures, c .before .before .before .before .before .driven .ensures, c .before .before .before .before .before .before .beat .ensures, c .before .before .before .before .before .before .before .is-read .ensures, c .before .before .before .before .before .before .before .before .status-at .ensures, c .before .before .before .before .before .before .before .before .before .at-alarm .ensures, c .before .before .before .before .before .before .before .before .before .before .fails .ensures)
+returns c = rw (c .bit-after2 .ensures, c .before .bit-after .ensures, c .before .before .before .run-after .ensures, c .before .before .before .before .judges .ensures, c .before .before .before .before .before .driven .ensures, c .before .before .before .before .before .before .fan-input .ensures, c .before .before .before .before .before .before .before .is-read .ensures, c .before .before .before .before .before .before .before .before .status-at .ensures, c .before .before .before .before .before .before .before .before .before .at-alarm .ensures, c .before .before .before .before .before .before .before .before .before .before .fails .ensures)
 
 pub fan-after-spec : {M : Type 1} → statement M
 fan-after-spec =
@@ -45,10 +45,10 @@ fan-after-spec =
     at-alarm-requires
     status-at-requires
     is-read-requires
-    beat-requires
+    fan-input-requires
     driven-requires
     judges-requires
     run-after-requires
-    mark-after-requires
-    mark-after-requires-2
+    bit-after-requires
+    bit-after-requires-2
     returns)

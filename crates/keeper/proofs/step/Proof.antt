@@ -1,49 +1,37 @@
-use Rattle.keeper.proofs.Laws.{step-off, step-on}
+use Rattle.keeper.proofs.Laws.{step-is}
 use borrow.Author.Needs.{needs}
 use Rattle.keeper.proofs.step.Statement.{statement}
 use Rattle.keeper.proofs.step.Tie as tie
 
-enum-told : tie.Need-enum-told
-enum-told c = search needs
+chip-in-requires : tie.Need-chip-in-requires
+chip-in-requires c κs = search needs
 
-blank-chip-requires : tie.Need-blank-chip-requires
-blank-chip-requires c κs = search needs
+plain-of-requires : tie.Need-plain-of-requires
+plain-of-requires c κs = search needs
 
-judge-requires : tie.Need-judge-requires
-judge-requires c κs = search needs
+is-on-requires : tie.Need-is-on-requires
+is-on-requires c κs = search needs
+
+standing-requires : tie.Need-standing-requires
+standing-requires c κs = search needs
+
+reply-requires : tie.Need-reply-requires
+reply-requires c κs = search needs
 
 decide-requires : tie.Need-decide-requires
 decide-requires c κs = search needs
 
-enum-known-k : tie.Need-enum-known-k
-enum-known-k c = search needs
-
-bit-requires : tie.Need-bit-requires
-bit-requires c κs = search needs
-
-judge-requires-2 : tie.Need-judge-requires-2
-judge-requires-2 c κs = search needs
-
-decide-requires-2 : tie.Need-decide-requires-2
-decide-requires-2 c κs = search needs
-
 returns : tie.Need-returns
-returns c = search step-off
-
-returns-2 : tie.Need-returns-2
-returns-2 c = search step-on
+returns c = search step-is
 
 pub step-spec : {M : Type 1} → statement M
 step-spec =
     tie.close
     (tie.spec
-    enum-told
-    blank-chip-requires
-    judge-requires
+    chip-in-requires
+    plain-of-requires
+    is-on-requires
+    standing-requires
+    reply-requires
     decide-requires
-    enum-known-k
-    bit-requires
-    judge-requires-2
-    decide-requires-2
-    returns
-    returns-2)
+    returns)

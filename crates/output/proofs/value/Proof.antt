@@ -28,8 +28,8 @@ enum-told-4 c = search needs
 enum-known-r-2 : tie.Need-enum-known-r-2
 enum-known-r-2 c = search needs
 
-fan-bytes-of-requires : tie.Need-fan-bytes-of-requires
-fan-bytes-of-requires c κs = search needs
+fan-registers-of-requires : tie.Need-fan-registers-of-requires
+fan-registers-of-requires c κs = search needs
 
 enum-known-r-3 : tie.Need-enum-known-r-3
 enum-known-r-3 c = search needs
@@ -43,38 +43,38 @@ byte-of-requires c κs = search needs
 enum-known-r-4 : tie.Need-enum-known-r-4
 enum-known-r-4 c = search needs
 
-limits-of-requires : tie.Need-limits-of-requires
-limits-of-requires c κs = search needs
+channel-registers-of-requires : tie.Need-channel-registers-of-requires
+channel-registers-of-requires c κs = search needs
 
 enum-known-r-5 : tie.Need-enum-known-r-5
 enum-known-r-5 c = search needs
 
-fan-bytes-of-requires-2 : tie.Need-fan-bytes-of-requires-2
-fan-bytes-of-requires-2 c κs = search needs
+fan-registers-of-requires-2 : tie.Need-fan-registers-of-requires-2
+fan-registers-of-requires-2 c κs = search needs
 
 enum-known-r-6 : tie.Need-enum-known-r-6
 enum-known-r-6 c = search needs
 
-limits-of-requires-2 : tie.Need-limits-of-requires-2
-limits-of-requires-2 c κs = search needs
+channel-registers-of-requires-2 : tie.Need-channel-registers-of-requires-2
+channel-registers-of-requires-2 c κs = search needs
 
 enum-known-r-7 : tie.Need-enum-known-r-7
 enum-known-r-7 c = search needs
 
-limits-of-requires-3 : tie.Need-limits-of-requires-3
-limits-of-requires-3 c κs = search needs
+channel-registers-of-requires-3 : tie.Need-channel-registers-of-requires-3
+channel-registers-of-requires-3 c κs = search needs
 
 enum-known-r-8 : tie.Need-enum-known-r-8
 enum-known-r-8 c = search needs
 
-limits-of-requires-4 : tie.Need-limits-of-requires-4
-limits-of-requires-4 c κs = search needs
+channel-registers-of-requires-4 : tie.Need-channel-registers-of-requires-4
+channel-registers-of-requires-4 c κs = search needs
 
 enum-known-r-9 : tie.Need-enum-known-r-9
 enum-known-r-9 c = search needs
 
-fan-bytes-of-requires-3 : tie.Need-fan-bytes-of-requires-3
-fan-bytes-of-requires-3 c κs = search needs
+fan-registers-of-requires-3 : tie.Need-fan-registers-of-requires-3
+fan-registers-of-requires-3 c κs = search needs
 
 enum-told-5 : tie.Need-enum-told-5
 enum-told-5 c = search needs
@@ -85,8 +85,8 @@ enum-told-6 c = search needs
 enum-known-r-10 : tie.Need-enum-known-r-10
 enum-known-r-10 c = search needs
 
-limits-of-requires-5 : tie.Need-limits-of-requires-5
-limits-of-requires-5 c κs = search needs
+channel-registers-of-requires-5 : tie.Need-channel-registers-of-requires-5
+channel-registers-of-requires-5 c κs = search needs
 
 enum-told-7 : tie.Need-enum-told-7
 enum-told-7 c = search needs
@@ -119,7 +119,7 @@ returns-5 c = rw (c .enum-told4 .given .1)
 
 returns-6 : tie.Need-returns-6
 unfolding valueOf
-returns-6 c = rw (c .before .before .r2 .given .1, c .fan-bytes-of .ensures)
+returns-6 c = rw (c .before .before .r2 .given .1, c .fan-registers-of .ensures)
 
 returns-7 : tie.Need-returns-7
 unfolding valueOf
@@ -127,27 +127,27 @@ returns-7 c = rw (c .before .before .before .r3 .given .1, sym (c .before .chann
 
 returns-8 : tie.Need-returns-8
 unfolding valueOf
-returns-8 c = rw (c .before .before .r4 .given .1, c .limits-of .ensures)
+returns-8 c = rw (c .before .before .r4 .given .1, c .channel-registers-of .ensures)
 
 returns-9 : tie.Need-returns-9
 unfolding valueOf
-returns-9 c = rw (c .before .before .r5 .given .1, c .fan-bytes-of2 .ensures)
+returns-9 c = rw (c .before .before .r5 .given .1, c .fan-registers-of2 .ensures)
 
 returns-10 : tie.Need-returns-10
 unfolding valueOf
-returns-10 c = rw (c .before .before .r6 .given .1, c .limits-of2 .ensures)
+returns-10 c = rw (c .before .before .r6 .given .1, c .channel-registers-of2 .ensures)
 
 returns-11 : tie.Need-returns-11
 unfolding valueOf
-returns-11 c = rw (c .before .before .r7 .given .1, c .limits-of3 .ensures)
+returns-11 c = rw (c .before .before .r7 .given .1, c .channel-registers-of3 .ensures)
 
 returns-12 : tie.Need-returns-12
 unfolding valueOf
-returns-12 c = rw (c .before .before .r8 .given .1, c .limits-of4 .ensures)
+returns-12 c = rw (c .before .before .r8 .given .1, c .channel-registers-of4 .ensures)
 
 returns-13 : tie.Need-returns-13
 unfolding valueOf
-returns-13 c = rw (c .before .before .r9 .given .1, c .fan-bytes-of3 .ensures)
+returns-13 c = rw (c .before .before .r9 .given .1, c .fan-registers-of3 .ensures)
 
 returns-14 : tie.Need-returns-14
 unfolding valueOf
@@ -159,7 +159,7 @@ returns-15 c = rw (c .enum-told6 .given .1)
 
 returns-16 : tie.Need-returns-16
 unfolding valueOf
-returns-16 c = rw (c .before .before .r10 .given .1, c .limits-of5 .ensures)
+returns-16 c = rw (c .before .before .r10 .given .1, c .channel-registers-of5 .ensures)
 
 returns-17 : tie.Need-returns-17
 unfolding valueOf
@@ -185,26 +185,26 @@ value-spec =
     extended-requires
     enum-told-4
     enum-known-r-2
-    fan-bytes-of-requires
+    fan-registers-of-requires
     enum-known-r-3
     channel-in-requires
     byte-of-requires
     enum-known-r-4
-    limits-of-requires
+    channel-registers-of-requires
     enum-known-r-5
-    fan-bytes-of-requires-2
+    fan-registers-of-requires-2
     enum-known-r-6
-    limits-of-requires-2
+    channel-registers-of-requires-2
     enum-known-r-7
-    limits-of-requires-3
+    channel-registers-of-requires-3
     enum-known-r-8
-    limits-of-requires-4
+    channel-registers-of-requires-4
     enum-known-r-9
-    fan-bytes-of-requires-3
+    fan-registers-of-requires-3
     enum-told-5
     enum-told-6
     enum-known-r-10
-    limits-of-requires-5
+    channel-registers-of-requires-5
     enum-told-7
     enum-told-8
     enum-told-9

@@ -1,16 +1,16 @@
-use Rattle.stored.proofs.Laws.{stored-fresh, stored-written, stored-counted, stored-kept}
+use Rattle.stored.proofs.Laws.{stored-restart, stored-written, stored-counted, stored-kept}
 use borrow.Author.Needs.{needs}
 use Rattle.stored.proofs.stored_after.Statement.{statement}
 use Rattle.stored.proofs.stored_after.Tie as tie
 
-is-fresh-requires : tie.Need-is-fresh-requires
-is-fresh-requires c κs = search needs
+is-restart-requires : tie.Need-is-restart-requires
+is-restart-requires c κs = search needs
 
 reset-at-requires : tie.Need-reset-at-requires
 reset-at-requires c κs = search needs
 
 returns : tie.Need-returns
-returns c = search stored-fresh
+returns c = search stored-restart
 
 is-write-requires : tie.Need-is-write-requires
 is-write-requires c κs = search needs
@@ -37,7 +37,7 @@ pub stored-after-spec : {M : Type 1} → statement M
 stored-after-spec =
     tie.close
     (tie.spec
-    is-fresh-requires
+    is-restart-requires
     reset-at-requires
     returns
     is-write-requires

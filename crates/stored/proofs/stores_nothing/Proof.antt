@@ -2,8 +2,8 @@ use borrow.Author.Needs.{needs}
 use Rattle.stored.proofs.stores_nothing.Statement.{statement}
 use Rattle.stored.proofs.stores_nothing.Tie as tie
 
-is-fresh-requires : tie.Need-is-fresh-requires
-is-fresh-requires c κs = search needs
+is-restart-requires : tie.Need-is-restart-requires
+is-restart-requires c κs = search needs
 
 is-a-requires : tie.Need-is-a-requires
 is-a-requires c κs = search needs
@@ -15,4 +15,4 @@ returns : tie.Need-returns
 returns c = cc
 
 pub stores-nothing-spec : {M : Type 1} → statement M
-stores-nothing-spec = tie.close (tie.spec is-fresh-requires is-a-requires is-a-requires-2 returns)
+stores-nothing-spec = tie.close (tie.spec is-restart-requires is-a-requires is-a-requires-2 returns)

@@ -12,8 +12,8 @@ no-channel-requires-2 c κs = search needs
 no-channel-requires-3 : tie.Need-no-channel-requires-3
 no-channel-requires-3 c κs = search needs
 
-no-settings-requires : tie.Need-no-settings-requires
-no-settings-requires c κs = search needs
+no-registers-requires : tie.Need-no-registers-requires
+no-registers-requires c κs = search needs
 
 no-fan-requires : tie.Need-no-fan-requires
 no-fan-requires c κs = search needs
@@ -31,7 +31,7 @@ blank-chip-spec =
     no-channel-requires
     no-channel-requires-2
     no-channel-requires-3
-    no-settings-requires
+    no-registers-requires
     no-fan-requires
     no-fan-requires-2
     returns)

@@ -1,0 +1,38 @@
+use Rattle.channel.specs.Channels.{highBitAfter}
+use borrow.Author.Needs.{needs}
+use Rattle.channel.proofs.status.high_bit_after.Statement.{statement}
+use Rattle.channel.proofs.status.high_bit_after.Tie as tie
+
+is-sample-requires : tie.Need-is-sample-requires
+is-sample-requires c κs = search needs
+
+measured-requires : tie.Need-measured-requires
+measured-requires c κs = search needs
+
+over-requires : tie.Need-over-requires
+over-requires c κs = search needs
+
+limit-bits-in-requires : tie.Need-limit-bits-in-requires
+limit-bits-in-requires c κs = search needs
+
+clears-bit-requires : tie.Need-clears-bit-requires
+clears-bit-requires c κs = search needs
+
+bit-after-requires : tie.Need-bit-after-requires
+bit-after-requires c κs = search needs
+
+returns : tie.Need-returns
+unfolding highBitAfter
+returns c = cc
+
+pub high-bit-after-spec : {M : Type 1} → statement M
+high-bit-after-spec =
+    tie.close
+    (tie.spec
+    is-sample-requires
+    measured-requires
+    over-requires
+    limit-bits-in-requires
+    clears-bit-requires
+    bit-after-requires
+    returns)
