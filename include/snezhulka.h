@@ -10,7 +10,8 @@
 extern "C" {
 #endif
 
-/* What a call gives where its input or buffer has the wrong size (reply 11); the buffer is then as it was. */
+/* What snezhulka_replay and snezhulka_steps give where input or buffer has the wrong size (reply 11); the buffer is
+   then as it was. */
 #define SNEZHULKA_WRONG_SIZE SIZE_MAX
 
 /* Replays a trace text of at most 65,536 bytes into `report` and gives the length of the report.
@@ -22,6 +23,17 @@ size_t snezhulka_replay(const uint8_t *text, size_t text_len, uint8_t *report, s
    fault, duty1, duty2. Gives how many bytes those are; the events end before the first that has another kind.
    `count` is the number of numbers; `outcomes` must have room for the outcomes of all events. */
 size_t snezhulka_steps(const int32_t *numbers, size_t count, uint8_t *outcomes, size_t outcomes_len);
+
+/* Steps a keeper that never had power through the same events and puts its register image into the first 64 bytes of
+   `image`: at each place what a read of that address would return, 0 where there is no register. Gives the reply number:
+   0; 1 before the first accepted power; 10 where an event has another kind; 11 where the numbers are no whole events or
+   `image` has fewer than 64 bytes. But for 0 the buffer is then as it was. */
+size_t snezhulka_image(const int32_t *numbers, size_t count, uint8_t *image, size_t image_len);
+
+/* Reads the events of a trace text and writes each of them again into `copy`, from its start, up to the first that is not
+   well-formed or does not fit. Gives how many bytes that are: the same that the text starts with, since an event has one
+   text only. The other bytes of `copy` are as they were. */
+size_t snezhulka_rewrite(const uint8_t *text, size_t text_len, uint8_t *copy, size_t copy_len);
 
 #ifdef __cplusplus
 }

@@ -17,12 +17,13 @@ use borrow.Author.Tests.{le-leb, lt-leb, leb-true, leb-false}
 use Rattle.integer.specs.declared.Split.{Split}
 use Rattle.integer.specs.declared.Split.the-variants.{Nat, Neg}
 use Rattle.integer.specs.Range.{splitOf}
-use Rattle.event.specs.declared.Answer.the-variants.{WrongSize}
+use Rattle.event.specs.declared.Refusal.{Refusal}
+use Rattle.event.specs.declared.Refusal.the-variants.{WrongSize}
 use Rattle.decimal.specs.Decimal.{decimalOf, textOf}
 use Rattle.decimal.proofs.Laws.{decimal-small, decimal-large, small-length, decimal-length, decimal-bound}
 use Rattle.buffer.specs.declared.Put.{Put}
 use Rattle.buffer.specs.declared.Put.the-variants.{End, Refused}
-use Rattle.buffer.specs.Put.{putOf, heldOf}
+use Rattle.buffer.specs.Put.{putOf, heldOf, endOf}
 
 -- ---- runs of stores
 
@@ -84,6 +85,22 @@ module _ (d t : List ℕ) (at : ℕ) {b : Bool} (q : b ≡ leb (at + length t) (
   pub held-refused : b ≡ false → d ≡ heldOf d at t
   unfolding heldOf
   held-refused h = rw (← q, h)
+
+-- where it fits
+module _ (d t : List ℕ) (at : ℕ) (room : at + length t ≤ length d) where
+  put-there : putOf d at t ≡ End (at + length t)
+  unfolding putOf
+  put-there = rw (le-leb (at + length t) (length d) room)
+
+  pub end-there : {p : Put} {e : ℕ} (z : ℕ) → p ≡ putOf d at t → e ≡ endOf p z → e ≡ at + length t
+  end-there z q h = h ∙ ap (λ (p : Put). endOf p z) (q ∙ put-there)
+
+  pub held-there : {d′ : List ℕ} → d′ ≡ heldOf d at t → d′ ≡ sets d at t
+  unfolding heldOf
+  held-there q = q ∙ rw (le-leb (at + length t) (length d) room)
+
+  pub never-refused : {p : Put} {r : Refusal} → p ≡ putOf d at t → p ≡ Refused r → ⊥
+  never-refused {p} {r} q h = let e : Refused r ≡ End (at + length t) = sym h ∙ q ∙ put-there in let z : _≡_ {A = ℕ} 0 1 = cc in omega arith
 
 -- where a text is another, so are the answer and what the buffer holds
 pub put-as : {r : Put} (d s t : List ℕ) (at : ℕ) → r ≡ putOf d at s → s ≡ t → r ≡ putOf d at t

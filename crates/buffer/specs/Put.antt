@@ -5,7 +5,8 @@ use mathlib.Core.Bool.{Bool, cond}
 use lib.Dec.{leb}
 use lib.ListN.{length}
 use lib.Seq.{sets}
-use Rattle.event.specs.declared.Answer.the-variants.{WrongSize}
+use Rattle.event.specs.Answers.{refusalNumber}
+use Rattle.event.specs.declared.Refusal.the-variants.{WrongSize}
 use Rattle.buffer.specs.declared.Put.{Put}
 use Rattle.buffer.specs.declared.Put.the-variants.{End, Refused}
 
@@ -16,6 +17,16 @@ fitsAt d at text = leb (at + length text) (length d)
 -- what the writer answers
 unfoldable pub putOf : (d : List ℕ) (at : ℕ) (text : List ℕ) → Put
 putOf d at text = cond (fitsAt d at text) (End (at + length text)) (Refused WrongSize)
+
+-- the number of the answer
+abbrev pub putNumber : Put → ℕ
+putNumber (End n) = 0
+putNumber (Refused r) = refusalNumber r
+
+-- where the text ends; another number for a refusal
+abbrev pub endOf : Put → (other : ℕ) → ℕ
+endOf (End n) other = n
+endOf (Refused r) other = other
 
 -- what the buffer then holds; `sets` stores the bytes of a text one after the other
 unfoldable pub heldOf : (d : List ℕ) (at : ℕ) (text : List ℕ) → List ℕ

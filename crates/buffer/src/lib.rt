@@ -1,6 +1,6 @@
 // Text into a lent buffer, from an index on: bytes and decimals.
 // What would stand past the end is dropped; who must not lose any asks `fits` first.
-use event::Answer;
+use event::Refusal;
 use integer::Split;
 ghost use mathlib.Core.Path.{_≡_};
 ghost use Prim.Native.Nat.{_+_};
@@ -8,13 +8,33 @@ ghost use mathlib.Core.List.{_∷_};
 ghost use lib.Dec.{leb};
 ghost use lib.ListN.{length, set};
 ghost use lib.Seq.{sets};
-ghost use Rattle.buffer.specs.Put.{putOf, heldOf};
+ghost use Rattle.buffer.specs.Put.{putOf, heldOf, putNumber, endOf};
 ghost use Rattle.decimal.specs.Decimal.{decimalOf, textOf};
 
 // Where a text that was put ends; or that it was refused, and the buffer is as it was.
 pub enum Put {
     End(usize),
-    Refused(Answer),
+    Refused(Refusal),
+}
+
+// The number of the answer: 0 for a text that was put.
+pub fn number_of(put: Put) -> u8
+    ensures { λ r. ⌜ r ≡ putNumber put ⌝ }
+{
+    match put {
+        Put::End(_) => 0,
+        Put::Refused(r) => event::refusal_number(r),
+    }
+}
+
+// Where a text that was put ends; another number for a refusal.
+pub fn end_of(put: Put, other: usize) -> usize
+    ensures { λ r. ⌜ r ≡ endOf put other ⌝ }
+{
+    match put {
+        Put::End(end) => end,
+        Put::Refused(_) => other,
+    }
 }
 
 // Whether n bytes from an index on lie within a length.
@@ -94,6 +114,6 @@ pub fn put_whole(text: &[u8], buf: &mut [u8], at: usize) -> Put
         put_bytes(text, buf, at);
         Put::End(at + n)
     } else {
-        Put::Refused(Answer::WrongSize)
+        Put::Refused(Refusal::WrongSize)
     }
 }

@@ -1,100 +1,111 @@
 -- Document 01, "Temperatures, latches and cards", rules 1 to 3, 5 and 7, and "Duty in slots", rule 1: a channel after an event.
 use Prim.Native.Nat.{ℕ}
 use mathlib.Core.Bool.{Bool, false, cond, not, _&&_, _||_}
+use lib.Dec.{eqb}
 use Rattle.part.specs.declared.ChannelId.{ChannelId}
 use Rattle.part.specs.declared.ChannelId.the-variants.{Local, Remote1, Remote2}
 use Rattle.part.specs.declared.FanId.{FanId}
-use Rattle.part.specs.declared.FanId.the-variants.{One, Two}
 use Rattle.event.specs.declared.Kind.the-variants as kind
-use Rattle.reading.specs.Limits.{latchedOf, runningOf, overOf, underOf}
-use Rattle.demand.specs.Demand.{tminOf}
+use Rattle.rules.specs.Registers.{statusAt}
+use Rattle.rules.specs.Fields.{channelEnabled}
+use Rattle.rules.specs.Temperatures.{limitBitsIn, thermBitIn}
+use Rattle.rules.specs.Targets.{tminOf}
+use Rattle.reading.specs.Limits.{latchedOf, runningOf, isHigh, isLow}
 use Rattle.input.specs.declared.Input.{Input}
-use Rattle.input.specs.Inputs.{isA, samples, restarts, reads, bitAfter}
-use Rattle.stored.specs.Stored.{statusAt, channelEnabled}
-use Rattle.stored.specs.declared.ChannelRegisters.{ChannelRegisters}
-use Rattle.stored.specs.declared.Registers.{Registers}
+use Rattle.input.specs.Inputs.{isA, isSample, isRead, isRestart, bitAfter}
+use Rattle.stored.specs.Stored.{channelRegistersOf}
+use Rattle.stored.specs.declared.Context.{Context}
 use Rattle.channel.specs.declared.Channel.{Channel}
 use Rattle.channel.specs.declared.Channels.{Channels}
 
+-- m is what moves a channel: the event, the registers as they stand after it, the pointer as it stood before it
+
 -- the reading that a sample makes
-abbrev pub measuredOf : Input → ℕ
-measuredOf r = r .reading
+abbrev pub sampledIn : Context → ℕ
+sampledIn m = m .input .reading
 
 -- 1: the last reading; 0, held as 1024, after power or reset
-unfoldable pub readingAfter : ChannelId → Input → ℕ → ℕ
-readingAfter c r was = cond (restarts r) 1024 (cond (samples c r) (measuredOf r) was)
+unfoldable pub readingAfter : ChannelId → Context → ℕ → ℕ
+readingAfter c m was = cond (isRestart (m .input)) 1024 (cond (isSample c (m .input)) (sampledIn m) was)
 
 -- 2: the latch, by the channel's THERM limit
-unfoldable pub latchAfter : ChannelId → (therm : ℕ) → Input → Bool → Bool
-latchAfter c therm r was = cond (restarts r) false (cond (samples c r) (latchedOf was therm (measuredOf r)) was)
+unfoldable pub latchAfter : ChannelId → Context → Bool → Bool
+latchAfter c m was =
+    cond (isRestart (m .input)) false
+    (cond (isSample c (m .input)) (latchedOf was (channelRegistersOf (m .registers) c .therm) (sampledIn m)) was)
 
 -- duty 1: the run flag, by the channel's Tmin
-unfoldable pub flagAfter : ChannelId → (control : ℕ) → Input → Bool → Bool
-flagAfter c control r was = cond (restarts r) false (cond (samples c r) (runningOf was (tminOf control) (measuredOf r)) was)
+unfoldable pub flagAfter : ChannelId → Context → Bool → Bool
+flagAfter c m was =
+    cond (isRestart (m .input)) false
+    (cond (isSample c (m .input)) (runningOf was (tminOf (channelRegistersOf (m .registers) c .control)) (sampledIn m)) was)
 
--- 4: the status registers, named by their fan, that hold a channel's high and low bits, and its THERM bit
-abbrev pub limitBitsIn : ChannelId → FanId
-limitBitsIn Local = One
-limitBitsIn Remote1 = One
-limitBitsIn Remote2 = Two
+abbrev pub channelOnIn : ChannelId → Context → Bool
+channelOnIn c m = channelEnabled c (m .registers .config2)
 
-abbrev pub thermBitIn : ChannelId → FanId
-thermBitIn Local = Two
-thermBitIn Remote1 = One
-thermBitIn Remote2 = Two
+-- 5, 7: what clears a bit: a restart, a read of its register, the channel's enable bit being 0
+unfoldable pub clearsBit : ChannelId → FanId → Context → Bool
+clearsBit c f m = isRestart (m .input) || (isRead (statusAt f) (m .pointer) (m .input) || not (channelOnIn c m))
 
--- 5, 7: what clears a bit: a start afresh, a read of its register, the channel's enable bit being 0
-abbrev pub clearsBit : FanId → (enabled : Bool) (pointer : ℕ) → Input → Bool
-clearsBit f enabled pointer r = restarts r || (reads (statusAt f) pointer r || not enabled)
+-- 3: the high and low bits; the THERM bit at a latch going from off to on
+unfoldable pub highBitAfter : ChannelId → Context → Bool → Bool
+highBitAfter c m was =
+    bitAfter (isSample c (m .input) && (channelOnIn c m && isHigh (channelRegistersOf (m .registers) c .high) (sampledIn m)))
+    (clearsBit c (limitBitsIn c) m) was
 
--- 3: the high and low bits
-unfoldable pub highBitAfter : ChannelId → (high : ℕ) (enabled : Bool) (pointer : ℕ) → Input → Bool → Bool
-highBitAfter c high enabled pointer r was =
-    bitAfter (samples c r && (enabled && overOf high (measuredOf r))) (clearsBit (limitBitsIn c) enabled pointer r) was
+unfoldable pub lowBitAfter : ChannelId → Context → Bool → Bool
+lowBitAfter c m was =
+    bitAfter (isSample c (m .input) && (channelOnIn c m && isLow (channelRegistersOf (m .registers) c .low) (sampledIn m)))
+    (clearsBit c (limitBitsIn c) m) was
 
-unfoldable pub lowBitAfter : ChannelId → (low : ℕ) (enabled : Bool) (pointer : ℕ) → Input → Bool → Bool
-lowBitAfter c low enabled pointer r was =
-    bitAfter (samples c r && (enabled && underOf low (measuredOf r))) (clearsBit (limitBitsIn c) enabled pointer r) was
+unfoldable pub thermBitAfter : ChannelId → Context → (before after : Bool) → Bool → Bool
+thermBitAfter c m before after was =
+    bitAfter (isSample c (m .input) && (channelOnIn c m && (not before && after))) (clearsBit c (thermBitIn c) m) was
 
--- 3: the THERM bit: a latch going from off to on
-unfoldable pub thermBitAfter : ChannelId → (enabled before after : Bool) (pointer : ℕ) → Input → Bool → Bool
-thermBitAfter c enabled before after pointer r was =
-    bitAfter (samples c r && (enabled && (not before && after))) (clearsBit (thermBitIn c) enabled pointer r) was
+-- 5: a diode error comes from power
+abbrev pub errorIn : ChannelId → Input → Bool
+errorIn Local i = false
+errorIn Remote1 i = eqb (i .arg) 1
+errorIn Remote2 i = eqb (i .val) 1
 
--- the channel: its limits and enable bit as they stand after the event, the pointer as it stood before it
-unfoldable pub channelAfter : ChannelId → ChannelRegisters → (enabled : Bool) (pointer : ℕ) → Input → Channel → Channel
-channelAfter c l enabled pointer r was =
+unfoldable pub errorAfter : ChannelId → Input → Bool → Bool
+errorAfter c i was = cond (isA kind.Power i) (errorIn c i) was
+
+unfoldable pub channelAfter : ChannelId → Context → Channel → Channel
+channelAfter c m was =
     record {
-      reading = readingAfter c r (was .reading);
-      latch = latchAfter c (l .therm) r (was .latch);
-      flag = flagAfter c (l .control) r (was .flag);
-      over = highBitAfter c (l .high) enabled pointer r (was .over);
-      under = lowBitAfter c (l .low) enabled pointer r (was .under);
-      hot = thermBitAfter c enabled (was .latch) (latchAfter c (l .therm) r (was .latch)) pointer r (was .hot);
+      reading = readingAfter c m (was .reading);
+      latch = latchAfter c m (was .latch);
+      flag = flagAfter c m (was .flag);
+      high = highBitAfter c m (was .high);
+      low = lowBitAfter c m (was .low);
+      therm = thermBitAfter c m (was .latch) (latchAfter c m (was .latch)) (was .therm);
+      error = errorAfter c (m .input) (was .error);
     }
 
 -- an event that is none of the channel's, and what it leaves: the same, which is proved
 abbrev pub passesBy : ChannelId → Input → Bool
-passesBy c r = not (restarts r || (samples c r || isA kind.Read r))
+passesBy c i = not (isRestart i || (isSample c i || isA kind.Read i))
 
-abbrev pub channelKept : (enabled : Bool) → Channel → Channel
-channelKept enabled was =
+abbrev pub channelKept : (on : Bool) → Channel → Channel
+channelKept on was =
     record {
       reading = was .reading;
       latch = was .latch;
       flag = was .flag;
-      over = was .over && enabled;
-      under = was .under && enabled;
-      hot = was .hot && enabled;
+      high = was .high && on;
+      low = was .low && on;
+      therm = was .therm && on;
+      error = was .error;
     }
 
--- the three channels, under the registers as they stand after the event
-unfoldable pub channelsAfter : Registers → (pointer : ℕ) → Input → Channels → Channels
-channelsAfter s pointer r cs =
+-- the three channels
+unfoldable pub channelsAfter : Context → Channels → Channels
+channelsAfter m cs =
     record {
-      local = channelAfter Local (s .local) (channelEnabled Local (s .config2)) pointer r (cs .local);
-      remote1 = channelAfter Remote1 (s .remote1) (channelEnabled Remote1 (s .config2)) pointer r (cs .remote1);
-      remote2 = channelAfter Remote2 (s .remote2) (channelEnabled Remote2 (s .config2)) pointer r (cs .remote2);
+      local = channelAfter Local m (cs .local);
+      remote1 = channelAfter Remote1 m (cs .remote1);
+      remote2 = channelAfter Remote2 m (cs .remote2);
     }
 
 -- 2: THERM is asserted while a latch is on

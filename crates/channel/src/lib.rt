@@ -1,24 +1,25 @@
-// The temperature channels, and what an accepted event makes of them: reading, THERM latch, run flag, status bits.
+// The temperature channels, and what an event makes of them: reading, THERM latch, run flag, status bits, diode error.
 // One function serves all three.
 mod status;
 
 use event::Kind;
 use input::Input;
 use part::ChannelId;
-use stored::ChannelRegisters;
-use stored::Registers;
+use stored::Context;
 ghost use mathlib.Core.Path.{_≡_};
-ghost use Rattle.demand.specs.Demand.{tminOf};
-ghost use Rattle.channel.specs.Channels.{measuredOf, readingAfter, latchAfter, flagAfter, passesBy, channelKept, channelAfter, channelsAfter, thermOf};
+ghost use Rattle.rules.specs.Targets.{tminOf};
+ghost use Rattle.channel.specs.Channels.{sampledIn, readingAfter, latchAfter, flagAfter, channelOnIn, errorIn, errorAfter, passesBy};
+ghost use Rattle.channel.specs.Channels.{channelKept, channelAfter, channelsAfter, thermOf};
 
-// The last reading, the THERM latch and the run flag; then the high, low and THERM status bits.
+// The last reading, the THERM latch and the run flag; then the high, low and THERM status bits, and the diode error.
 pub struct Channel {
     pub reading: u16,
     pub latch: bool,
     pub flag: bool,
-    pub over: bool,
-    pub under: bool,
-    pub hot: bool,
+    pub high: bool,
+    pub low: bool,
+    pub therm: bool,
+    pub error: bool,
 }
 
 pub struct Channels {
@@ -28,31 +29,32 @@ pub struct Channels {
 }
 
 // The reading that a sample makes.
-fn measured(r: Input) -> u16
-    ensures { λ t. ⌜ t ≡ measuredOf r ⌝ }
+fn sampled(m: Context) -> u16
+    ensures { λ t. ⌜ t ≡ sampledIn m ⌝ }
 {
-    r.reading
+    m.input.reading
 }
 
-fn reading_after(c: ChannelId, r: Input, was: u16) -> u16
-    ensures { λ t. ⌜ t ≡ readingAfter c r was ⌝ }
+fn reading_after(c: ChannelId, m: Context, was: u16) -> u16
+    ensures { λ t. ⌜ t ≡ readingAfter c m was ⌝ }
 {
-    if input::is_restart(r) {
+    if input::is_restart(m.input) {
         1024
-    } else if input::is_sample(c, r) {
-        measured(r)
+    } else if input::is_sample(c, m.input) {
+        sampled(m)
     } else {
         was
     }
 }
 
-fn latch_after(c: ChannelId, therm: u8, r: Input, was: bool) -> bool
-    ensures { λ b. ⌜ b ≡ latchAfter c therm r was ⌝ }
+fn latch_after(c: ChannelId, m: Context, was: bool) -> bool
+    ensures { λ b. ⌜ b ≡ latchAfter c m was ⌝ }
 {
+    let l = stored::channel_registers_of(m.registers, c);
     input::flag_after(
-        input::is_restart(r),
-        input::is_sample(c, r),
-        reading::latched(was, therm, measured(r)),
+        input::is_restart(m.input),
+        input::is_sample(c, m.input),
+        reading::latched(was, l.therm, sampled(m)),
         was,
     )
 }
@@ -60,104 +62,104 @@ fn latch_after(c: ChannelId, therm: u8, r: Input, was: bool) -> bool
 fn tmin(control: u8) -> u8
     ensures { λ t. ⌜ t ≡ tminOf control ⌝ }
 {
-    4 * (control / 8)
+    4 * (control / 8 % 32)
 }
 
-fn flag_after(c: ChannelId, control: u8, r: Input, was: bool) -> bool
-    ensures { λ b. ⌜ b ≡ flagAfter c control r was ⌝ }
+fn flag_after(c: ChannelId, m: Context, was: bool) -> bool
+    ensures { λ b. ⌜ b ≡ flagAfter c m was ⌝ }
 {
+    let l = stored::channel_registers_of(m.registers, c);
     input::flag_after(
-        input::is_restart(r),
-        input::is_sample(c, r),
-        reading::running(was, tmin(control), measured(r)),
+        input::is_restart(m.input),
+        input::is_sample(c, m.input),
+        reading::running(was, tmin(l.control), sampled(m)),
         was,
     )
 }
 
-// An event that is none of the channel's: no start afresh, no sample of it, no read.
-fn passes_by(c: ChannelId, r: Input) -> bool
-    ensures { λ b. ⌜ b ≡ passesBy c r ⌝ }
+// Whether the channel's enable bit is 1.
+fn is_on(c: ChannelId, m: Context) -> bool
+    ensures { λ b. ⌜ b ≡ channelOnIn c m ⌝ }
 {
-    !(input::is_restart(r) | (input::is_sample(c, r) | input::is_a(Kind::Read, r)))
+    stored::channel_enabled(c, m.registers.config2)
+}
+
+// The diode error that power brings, and that stays until the next.
+fn error_in(c: ChannelId, i: Input) -> bool
+    ensures { λ b. ⌜ b ≡ errorIn c i ⌝ }
+{
+    match c {
+        ChannelId::Local => false,
+        ChannelId::Remote1 => i.arg == 1,
+        ChannelId::Remote2 => i.val == 1,
+    }
+}
+
+fn error_after(c: ChannelId, i: Input, was: bool) -> bool
+    ensures { λ b. ⌜ b ≡ errorAfter c i was ⌝ }
+{
+    if input::is_a(Kind::Power, i) {
+        error_in(c, i)
+    } else {
+        was
+    }
+}
+
+// An event that is none of the channel's: no start afresh, no sample of it, no read.
+fn passes_by(c: ChannelId, i: Input) -> bool
+    ensures { λ b. ⌜ b ≡ passesBy c i ⌝ }
+{
+    !(input::is_restart(i) | (input::is_sample(c, i) | input::is_a(Kind::Read, i)))
 }
 
 // The channel after such an event: at most its enable bit has become 0.
-fn channel_kept(enabled: bool, was: Channel) -> Channel
-    ensures { λ b. ⌜ b ≡ channelKept enabled was ⌝ }
+fn channel_kept(on: bool, was: Channel) -> Channel
+    ensures { λ b. ⌜ b ≡ channelKept on was ⌝ }
 {
     Channel {
         reading: was.reading,
         latch: was.latch,
         flag: was.flag,
-        over: was.over & enabled,
-        under: was.under & enabled,
-        hot: was.hot & enabled,
+        high: was.high & on,
+        low: was.low & on,
+        therm: was.therm & on,
+        error: was.error,
     }
 }
 
-fn channel_moved(
-    c: ChannelId,
-    l: ChannelRegisters,
-    enabled: bool,
-    pointer: u8,
-    r: Input,
-    was: Channel,
-) -> Channel
-    ensures { λ b. ⌜ b ≡ channelAfter c l enabled pointer r was ⌝ }
+fn channel_moved(c: ChannelId, m: Context, was: Channel) -> Channel
+    ensures { λ b. ⌜ b ≡ channelAfter c m was ⌝ }
 {
-    let latch = latch_after(c, l.therm, r, was.latch);
+    let latch = latch_after(c, m, was.latch);
     Channel {
-        reading: reading_after(c, r, was.reading),
+        reading: reading_after(c, m, was.reading),
         latch,
-        flag: flag_after(c, l.control, r, was.flag),
-        over: status::high_bit_after(c, l.high, enabled, pointer, r, was.over),
-        under: status::low_bit_after(c, l.low, enabled, pointer, r, was.under),
-        hot: status::therm_bit_after(c, enabled, was.latch, latch, pointer, r, was.hot),
+        flag: flag_after(c, m, was.flag),
+        high: status::high_bit_after(c, m, was.high),
+        low: status::low_bit_after(c, m, was.low),
+        therm: status::therm_bit_after(c, m, was.latch, latch, was.therm),
+        error: error_after(c, m.input, was.error),
     }
 }
 
-fn channel_after(
-    c: ChannelId,
-    l: ChannelRegisters,
-    enabled: bool,
-    pointer: u8,
-    r: Input,
-    was: Channel,
-) -> Channel
-    ensures { λ b. ⌜ b ≡ channelAfter c l enabled pointer r was ⌝ }
+fn channel_after(c: ChannelId, m: Context, was: Channel) -> Channel
+    ensures { λ b. ⌜ b ≡ channelAfter c m was ⌝ }
 {
-    if passes_by(c, r) {
-        channel_kept(enabled, was)
+    if passes_by(c, m.input) {
+        channel_kept(is_on(c, m), was)
     } else {
-        channel_moved(c, l, enabled, pointer, r, was)
+        channel_moved(c, m, was)
     }
 }
 
-// The three channels, under the registers as they stand after the event; the pointer as it stood before it.
-pub fn channels_after(s: Registers, pointer: u8, r: Input, cs: Channels) -> Channels
-    ensures { λ b. ⌜ b ≡ channelsAfter s pointer r cs ⌝ }
+// The three channels.
+pub fn channels_after(m: Context, cs: Channels) -> Channels
+    ensures { λ b. ⌜ b ≡ channelsAfter m cs ⌝ }
 {
-    let enabled0 = stored::channel_enabled(ChannelId::Local, s.config2);
-    let enabled1 = stored::channel_enabled(ChannelId::Remote1, s.config2);
-    let enabled2 = stored::channel_enabled(ChannelId::Remote2, s.config2);
     Channels {
-        local: channel_after(ChannelId::Local, s.local, enabled0, pointer, r, cs.local),
-        remote1: channel_after(
-            ChannelId::Remote1,
-            s.remote1,
-            enabled1,
-            pointer,
-            r,
-            cs.remote1,
-        ),
-        remote2: channel_after(
-            ChannelId::Remote2,
-            s.remote2,
-            enabled2,
-            pointer,
-            r,
-            cs.remote2,
-        ),
+        local: channel_after(ChannelId::Local, m, cs.local),
+        remote1: channel_after(ChannelId::Remote1, m, cs.remote1),
+        remote2: channel_after(ChannelId::Remote2, m, cs.remote2),
     }
 }
 

@@ -1,9 +1,10 @@
 // The status bits of a channel: what sets and clears its high, low and THERM bits.
-use input::Input;
 use part::ChannelId;
 use part::FanId;
+use stored::Context;
 ghost use mathlib.Core.Path.{_≡_};
-ghost use Rattle.channel.specs.Channels.{limitBitsIn, thermBitIn, clearsBit, highBitAfter, lowBitAfter, thermBitAfter};
+ghost use Rattle.rules.specs.Temperatures.{limitBitsIn, thermBitIn};
+ghost use Rattle.channel.specs.Channels.{clearsBit, highBitAfter, lowBitAfter, thermBitAfter};
 
 // The status register, by its fan, of a channel's high and low bits, and of its THERM bit.
 pub fn limit_bits_in(c: ChannelId) -> FanId
@@ -26,44 +27,36 @@ pub fn therm_bit_in(c: ChannelId) -> FanId
     }
 }
 
-pub fn clears_bit(f: FanId, enabled: bool, pointer: u8, r: Input) -> bool
-    ensures { λ b. ⌜ b ≡ clearsBit f enabled pointer r ⌝ }
+// A start afresh, a read of its register and a cleared enable bit clear a bit.
+pub fn clears_bit(c: ChannelId, f: FanId, m: Context) -> bool
+    ensures { λ b. ⌜ b ≡ clearsBit c f m ⌝ }
 {
-    input::is_restart(r) | (input::is_read(stored::status_at(f), pointer, r) | !enabled)
+    input::is_restart(m.input)
+        | (input::is_read(stored::status_at(f), m.pointer, m.input) | !super::is_on(c, m))
 }
 
-pub fn high_bit_after(
-    c: ChannelId,
-    high: u8,
-    enabled: bool,
-    pointer: u8,
-    r: Input,
-    was: bool,
-) -> bool
-    ensures { λ b. ⌜ b ≡ highBitAfter c high enabled pointer r was ⌝ }
+pub fn high_bit_after(c: ChannelId, m: Context, was: bool) -> bool
+    ensures { λ b. ⌜ b ≡ highBitAfter c m was ⌝ }
 {
-    let sets = input::is_sample(c, r) & (enabled & reading::over(high, super::measured(r)));
-    input::bit_after(sets, clears_bit(limit_bits_in(c), enabled, pointer, r), was)
+    let l = stored::channel_registers_of(m.registers, c);
+    let sets = input::is_sample(c, m.input)
+        & (super::is_on(c, m) & reading::is_high(l.high, super::sampled(m)));
+    input::bit_after(sets, clears_bit(c, limit_bits_in(c), m), was)
 }
 
-pub fn low_bit_after(c: ChannelId, low: u8, enabled: bool, pointer: u8, r: Input, was: bool) -> bool
-    ensures { λ b. ⌜ b ≡ lowBitAfter c low enabled pointer r was ⌝ }
+pub fn low_bit_after(c: ChannelId, m: Context, was: bool) -> bool
+    ensures { λ b. ⌜ b ≡ lowBitAfter c m was ⌝ }
 {
-    let sets = input::is_sample(c, r) & (enabled & reading::under(low, super::measured(r)));
-    input::bit_after(sets, clears_bit(limit_bits_in(c), enabled, pointer, r), was)
+    let l = stored::channel_registers_of(m.registers, c);
+    let sets = input::is_sample(c, m.input)
+        & (super::is_on(c, m) & reading::is_low(l.low, super::sampled(m)));
+    input::bit_after(sets, clears_bit(c, limit_bits_in(c), m), was)
 }
 
-pub fn therm_bit_after(
-    c: ChannelId,
-    enabled: bool,
-    before: bool,
-    after: bool,
-    pointer: u8,
-    r: Input,
-    was: bool,
-) -> bool
-    ensures { λ b. ⌜ b ≡ thermBitAfter c enabled before after pointer r was ⌝ }
+// At a latch going from off to on.
+pub fn therm_bit_after(c: ChannelId, m: Context, before: bool, after: bool, was: bool) -> bool
+    ensures { λ b. ⌜ b ≡ thermBitAfter c m before after was ⌝ }
 {
-    let sets = input::is_sample(c, r) & (enabled & (!before & after));
-    input::bit_after(sets, clears_bit(therm_bit_in(c), enabled, pointer, r), was)
+    let sets = input::is_sample(c, m.input) & (super::is_on(c, m) & (!before & after));
+    input::bit_after(sets, clears_bit(c, therm_bit_in(c), m), was)
 }

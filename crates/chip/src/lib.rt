@@ -5,17 +5,16 @@ use event::Kind;
 use fan::Fan;
 use input::Input;
 use part::FanId;
+use stored::Context;
 use stored::Registers;
 ghost use mathlib.Core.Path.{_≡_};
-ghost use Rattle.chip.specs.Chips.{addressAfter, error1After, error2After, pinLowAfter, pointerAfter, pulledAfter, portAfter, chipWith, chipUnder, chipAfter};
+ghost use Rattle.chip.specs.Chips.{addressAfter, pinLowAfter, pointerAfter, pulledAfter, portAfter, chipWith, contextOf, chipUnder, chipAfter};
 
-// What is neither register, channel nor fan: bus address and pointer, pin level, diode errors, and the pin's status bit.
+// What is neither register, channel nor fan: bus address and pointer, pin level, and the pin's status bit.
 pub struct Port {
     pub address: u8,
     pub pointer: u8,
-    pub low: bool,
-    pub error1: bool,
-    pub error2: bool,
+    pub pin_low: bool,
     pub pulled: bool,
 }
 
@@ -27,126 +26,99 @@ pub struct Chip {
     pub fan2: Fan,
 }
 
-fn address_after(r: Input, was: u8) -> u8
-    ensures { λ x. ⌜ x ≡ addressAfter r was ⌝ }
+fn address_after(i: Input, was: u8) -> u8
+    ensures { λ x. ⌜ x ≡ addressAfter i was ⌝ }
 {
-    if input::is_a(Kind::Power, r) {
-        r.who
+    if input::is_a(Kind::Power, i) {
+        (i.who % 256) as u8
     } else {
         was
     }
 }
 
-fn error1_after(r: Input, was: bool) -> bool
-    ensures { λ x. ⌜ x ≡ error1After r was ⌝ }
-{
-    if input::is_a(Kind::Power, r) {
-        r.arg == 1
-    } else {
-        was
-    }
-}
-
-fn error2_after(r: Input, was: bool) -> bool
-    ensures { λ x. ⌜ x ≡ error2After r was ⌝ }
-{
-    if input::is_a(Kind::Power, r) {
-        r.val == 1
-    } else {
-        was
-    }
-}
-
-fn pin_low_after(r: Input, was: bool) -> bool
-    ensures { λ x. ⌜ x ≡ pinLowAfter r was ⌝ }
+fn pin_low_after(i: Input, was: bool) -> bool
+    ensures { λ x. ⌜ x ≡ pinLowAfter i was ⌝ }
 {
     input::flag_after(
-        input::is_a(Kind::Power, r),
-        input::is_a(Kind::Pin, r),
-        r.val == 0,
+        input::is_a(Kind::Power, i),
+        input::is_a(Kind::Pin, i),
+        i.val == 0,
         was,
     )
 }
 
-fn pointer_after(r: Input, was: u8) -> u8
-    ensures { λ x. ⌜ x ≡ pointerAfter r was ⌝ }
+fn pointer_after(i: Input, was: u8) -> u8
+    ensures { λ x. ⌜ x ≡ pointerAfter i was ⌝ }
 {
-    if input::is_a(Kind::Power, r) {
+    if input::is_a(Kind::Power, i) {
         return 0;
     }
-    if input::is_a(Kind::Write, r) | input::is_a(Kind::Point, r) {
-        r.arg
+    if input::is_a(Kind::Write, i) | input::is_a(Kind::Point, i) {
+        (i.arg % 256) as u8
     } else {
         was
     }
 }
 
-fn pulled_after(low: bool, pointer: u8, r: Input, was: bool) -> bool
-    ensures { λ x. ⌜ x ≡ pulledAfter low pointer r was ⌝ }
+fn pulled_after(pin_low: bool, pointer: u8, i: Input, was: bool) -> bool
+    ensures { λ x. ⌜ x ≡ pulledAfter «pin_low» pointer i was ⌝ }
 {
-    let sets = input::is_a(Kind::Pin, r) & ((r.val == 0) & !low);
-    let clears = input::is_restart(r) | input::is_read(stored::status_at(FanId::Two), pointer, r);
+    let sets = input::is_a(Kind::Pin, i) & ((i.val == 0) & !pin_low);
+    let clears = input::is_restart(i) | input::is_read(stored::status_at(FanId::Two), pointer, i);
     input::bit_after(sets, clears, was)
 }
 
-fn port_after(r: Input, k: Port) -> Port
-    ensures { λ x. ⌜ x ≡ portAfter r k ⌝ }
+fn port_after(i: Input, p: Port) -> Port
+    ensures { λ x. ⌜ x ≡ portAfter i p ⌝ }
 {
     Port {
-        address: address_after(r, k.address),
-        pointer: pointer_after(r, k.pointer),
-        low: pin_low_after(r, k.low),
-        error1: error1_after(r, k.error1),
-        error2: error2_after(r, k.error2),
-        pulled: pulled_after(k.low, k.pointer, r, k.pulled),
+        address: address_after(i, p.address),
+        pointer: pointer_after(i, p.pointer),
+        pin_low: pin_low_after(i, p.pin_low),
+        pulled: pulled_after(p.pin_low, p.pointer, i, p.pulled),
     }
 }
 
-// Port, registers and channels as they stand after the event; the pointer and the fans as they stood before it.
-fn chip_with(
-    port: Port,
-    s: Registers,
-    cs: Channels,
-    pointer: u8,
-    r: Input,
-    fan1: Fan,
-    fan2: Fan,
-) -> Chip
-    ensures { λ x. ⌜ x ≡ chipWith port s cs pointer r fan1 fan2 ⌝ }
+// Port and channels as they stand after the event, the fans as they stood before it.
+fn chip_with(port: Port, m: Context, cs: Channels, k: Chip) -> Chip
+    ensures { λ x. ⌜ x ≡ chipWith port m cs k ⌝ }
 {
-    let first = fan::fan_in(FanId::One, port.low, s, s.fan1, cs, pointer, r, fan1);
-    let second = fan::fan_in(FanId::Two, port.low, s, s.fan2, cs, pointer, r, fan2);
+    let registers = m.registers;
+    let fan1 = fan::fan_after(FanId::One, port.pin_low, m, cs, k.fan1);
+    let fan2 = fan::fan_after(FanId::Two, port.pin_low, m, cs, k.fan2);
     Chip {
         port,
-        registers: s,
+        registers,
         channels: cs,
-        fan1: first,
-        fan2: second,
+        fan1,
+        fan2,
     }
 }
 
-fn chip_under(s: Registers, r: Input, k: Chip) -> Chip
-    ensures { λ x. ⌜ x ≡ chipUnder s r k ⌝ }
+fn context(i: Input, s: Registers, k: Chip) -> Context
+    ensures { λ m. ⌜ m ≡ contextOf i s k ⌝ }
 {
-    let cs = channel::channels_after(s, k.port.pointer, r, k.channels);
-    chip_with(
-        port_after(r, k.port),
-        s,
-        cs,
-        k.port.pointer,
-        r,
-        k.fan1,
-        k.fan2,
-    )
+    Context {
+        input: i,
+        registers: s,
+        pointer: k.port.pointer,
+    }
+}
+
+fn chip_under(m: Context, k: Chip) -> Chip
+    ensures { λ x. ⌜ x ≡ chipUnder m k ⌝ }
+{
+    let cs = channel::channels_after(m, k.channels);
+    chip_with(port_after(m.input, k.port), m, cs, k)
 }
 
 // The chip after an accepted event. Most events store nothing, and then no register is copied byte by byte.
-pub fn chip_after(r: Input, k: Chip) -> Chip
-    ensures { λ x. ⌜ x ≡ chipAfter r k ⌝ }
+pub fn chip_after(i: Input, k: Chip) -> Chip
+    ensures { λ x. ⌜ x ≡ chipAfter i k ⌝ }
 {
-    if stored::stores_nothing(r) {
-        chip_under(k.registers, r, k)
+    if stored::stores_nothing(i) {
+        chip_under(context(i, k.registers, k), k)
     } else {
-        chip_under(stored::registers_after(r, k.registers), r, k)
+        chip_under(context(i, stored::registers_after(i, k.registers), k), k)
     }
 }

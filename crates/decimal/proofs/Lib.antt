@@ -1,3 +1,4 @@
+pub mod ReadLaws
 pub mod Laws
 pub mod RoundTrip
 pub mod Clean

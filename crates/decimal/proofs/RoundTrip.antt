@@ -12,12 +12,10 @@ use mir.Syntax.{w32}
 use mir.Val.{SFits}
 use borrow.Author.Tests.{lt-ltb, le-leb, ne-eqb, ltb-true, ltb-false, leb-true, eqb-true, eqb-false}
 use Rattle.integer.proofs.BoolLaws.{both}
-use Rattle.integer.specs.declared.Signed.the-variants as signed
-use Rattle.integer.specs.Range.{signedOf}
 use Rattle.decimal.specs.declared.Magnitude.{Magnitude}
 use Rattle.decimal.specs.declared.Magnitude.the-variants.{Value, Bad}
-use Rattle.decimal.specs.declared.Decimal.the-variants.{Number}
-use Rattle.decimal.specs.Decimal.{digitsFrom, alone, plain, decided, positive, negative, parseOf, digitsOf, decimalOf, textOf}
+use Rattle.decimal.specs.declared.Decimal.the-variants.{Number, Malformed}
+use Rattle.decimal.specs.Decimal.{digitsFrom, alone, unsignedOf, signedOf, positive, negative, parseOf, digitsOf, decimalOf, textOf}
 use Rattle.decimal.proofs.Laws.{decimal-small, decimal-large}
 
 -- ---- what was written reads back
@@ -67,17 +65,17 @@ first (suc k) n h h′ = go (ltb n 10) refl (λ p. first k (n / 10) p (omega ari
     go true e ih = omega arith
     go false e ih = head-append (digitsOf k (n / 10)) ((48 + n % 10) ∷ []) (ih (omega (arith, ltb-false n 10 e)))
 
-plain-digits : (l : List ℕ) → 49 ≤ getD l 0 0 → plain l ≡ digitsFrom 0 l
-unfolding plain
-plain-digits [] h = absurd (omega arith)
-plain-digits (b ∷ bs) h = rw (ne-eqb b 48 (omega arith))
+unsigned-digits : (l : List ℕ) → 49 ≤ getD l 0 0 → unsignedOf l ≡ digitsFrom 0 l
+unfolding unsignedOf
+unsigned-digits [] h = absurd (omega arith)
+unsigned-digits (b ∷ bs) h = rw (ne-eqb b 48 (omega arith))
 
-plain-back : (n : ℕ) → plain (decimalOf n) ≡ Value n
-unfolding plain decimalOf digitsOf
-plain-back zero = refl
-plain-back (suc n) = plain-digits (decimalOf (suc n)) (first (suc n) (suc n) (omega arith) (omega arith)) ∙ read-back (suc n) (suc n) (omega arith)
+unsigned-back : (n : ℕ) → unsignedOf (decimalOf n) ≡ Value n
+unfolding unsignedOf decimalOf digitsOf
+unsigned-back zero = refl
+unsigned-back (suc n) = unsigned-digits (decimalOf (suc n)) (first (suc n) (suc n) (omega arith) (omega arith)) ∙ read-back (suc n) (suc n) (omega arith)
 
-parse-digits : (l : List ℕ) → 48 ≤ getD l 0 0 → parseOf l ≡ positive (plain l)
+parse-digits : (l : List ℕ) → 48 ≤ getD l 0 0 → parseOf l ≡ positive (unsignedOf l)
 unfolding parseOf
 parse-digits [] h = absurd (omega arith)
 parse-digits (b ∷ bs) h = rw (ne-eqb b 45 (omega arith))
@@ -89,8 +87,8 @@ head (suc n) = omega (arith, first (suc n) (suc n) (omega arith) (omega arith))
 
 pub round-trip : (z : ℤ) → SFits w32 z → parseOf (textOf z) ≡ Number z
 unfolding textOf parseOf signedOf
-round-trip (pos n) f = parse-digits (decimalOf n) (head n) ∙ rw (plain-back n, lt-ltb n 2147483648 (f .sfits))
-round-trip (negsuc n) f = rw (plain-back (suc n), lt-ltb n 2147483648 (f .sfits))
+round-trip (pos n) f = parse-digits (decimalOf n) (head n) ∙ rw (unsigned-back n, lt-ltb n 2147483648 (f .sfits))
+round-trip (negsuc n) f = rw (unsigned-back (suc n), lt-ltb n 2147483648 (f .sfits))
 
 -- ---- what reads as a number is its decimal
 
@@ -127,10 +125,10 @@ unfolding decimalOf digitsOf
 alone-only [] n e = let z : n ≡ 0 = cc in rw z
 alone-only (b ∷ bs) n e = cc
 
-plain-only : (l : List ℕ) (n : ℕ) → plain l ≡ Value n → l ≡ decimalOf n
-unfolding plain
-plain-only [] n e = cc
-plain-only (b ∷ bs) n e = go (eqb b 48) refl e
+unsigned-only : (l : List ℕ) (n : ℕ) → unsignedOf l ≡ Value n → l ≡ decimalOf n
+unfolding unsignedOf
+unsigned-only [] n e = cc
+unsigned-only (b ∷ bs) n e = go (eqb b 48) refl e
   where
     go : (t : Bool) → eqb b 48 ≡ t → cond t (alone bs) (digitsFrom 0 (b ∷ bs)) ≡ Value n → b ∷ bs ≡ decimalOf n
     go true h q = rw (eqb-true b 48 h) (alone-only bs n q)
@@ -142,19 +140,19 @@ plain-only (b ∷ bs) n e = go (eqb b 48) refl e
         rw (decimal-small w (omega arith), s) at (longer w bs n (omega arith) (d .2))
 
 -- a sign and a magnitude that make a number
-number-only : (t : Bool) (y z : ℤ) → decided (cond t (signed.Number y) signed.Beyond) ≡ Number z → z ≡ y
+number-only : (t : Bool) (y z : ℤ) → cond t (Number y) Malformed ≡ Number z → z ≡ y
 number-only true y z e = cc
 number-only false y z e = cc
 
-negative-only : (l : List ℕ) (z : ℤ) (m : Magnitude) → plain l ≡ m → negative m ≡ Number z → 45 ∷ l ≡ textOf z
+negative-only : (l : List ℕ) (z : ℤ) (m : Magnitude) → unsignedOf l ≡ m → negative m ≡ Number z → 45 ∷ l ≡ textOf z
 unfolding textOf signedOf
 negative-only l z (Value zero) q e = cc
-negative-only l z (Value (suc v)) q e = rw (number-only (ltb v 2147483648) (negsuc v) z e, plain-only l (suc v) q)
+negative-only l z (Value (suc v)) q e = rw (number-only (ltb v 2147483648) (negsuc v) z e, unsigned-only l (suc v) q)
 negative-only l z Bad q e = cc
 
-positive-only : (l : List ℕ) (z : ℤ) (m : Magnitude) → plain l ≡ m → positive m ≡ Number z → l ≡ textOf z
+positive-only : (l : List ℕ) (z : ℤ) (m : Magnitude) → unsignedOf l ≡ m → positive m ≡ Number z → l ≡ textOf z
 unfolding textOf signedOf
-positive-only l z (Value v) q e = rw (number-only (ltb v 2147483648) (pos v) z e) (plain-only l v q)
+positive-only l z (Value v) q e = rw (number-only (ltb v 2147483648) (pos v) z e) (unsigned-only l v q)
 positive-only l z Bad q e = cc
 
 pub only-text : (l : List ℕ) (z : ℤ) → parseOf l ≡ Number z → l ≡ textOf z
@@ -162,6 +160,6 @@ unfolding parseOf
 only-text [] z e = cc
 only-text (b ∷ bs) z e = go (eqb b 45) refl e
   where
-    go : (t : Bool) → eqb b 45 ≡ t → cond t (negative (plain bs)) (positive (plain (b ∷ bs))) ≡ Number z → b ∷ bs ≡ textOf z
-    go true h q = rw (eqb-true b 45 h) (negative-only bs z (plain bs) refl q)
-    go false h q = positive-only (b ∷ bs) z (plain (b ∷ bs)) refl q
+    go : (t : Bool) → eqb b 45 ≡ t → cond t (negative (unsignedOf bs)) (positive (unsignedOf (b ∷ bs))) ≡ Number z → b ∷ bs ≡ textOf z
+    go true h q = rw (eqb-true b 45 h) (negative-only bs z (unsignedOf bs) refl q)
+    go false h q = positive-only (b ∷ bs) z (unsignedOf (b ∷ bs)) refl q

@@ -4,10 +4,8 @@ use mathlib.Core.List.{List, [], _∷_, _++_}
 use mathlib.Core.Bool.{cond, _&&_}
 use lib.Dec.{ltb, leb, eqb}
 use lib.IntN.{ℤ, pos, negsuc}
-use Rattle.integer.specs.declared.Signed.{Signed}
-use Rattle.integer.specs.declared.Signed.the-variants as signed
+use Rattle.integer.specs.declared.Split.{Split}
 use Rattle.integer.specs.declared.Split.the-variants.{Nat, Neg}
-use Rattle.integer.specs.Range.{signedOf}
 use Rattle.decimal.specs.declared.Magnitude.{Magnitude}
 use Rattle.decimal.specs.declared.Magnitude.the-variants.{Value, Bad}
 use Rattle.decimal.specs.declared.Decimal.{Decimal}
@@ -26,29 +24,30 @@ alone [] = Value 0
 alone (b ∷ bs) = Bad
 
 -- an unsigned decimal without a leading zero
-unfoldable pub plain : List ℕ → Magnitude
-plain [] = Bad
-plain (b ∷ bs) = cond (eqb b 48) (alone bs) (digitsFrom 0 (b ∷ bs))
+unfoldable pub unsignedOf : List ℕ → Magnitude
+unsignedOf [] = Bad
+unsignedOf (b ∷ bs) = cond (eqb b 48) (alone bs) (digitsFrom 0 (b ∷ bs))
 
-abbrev pub decided : Signed → Decimal
-decided (signed.Number z) = Number z
-decided signed.Beyond = Malformed
+-- the number of a sign and a distance, where it fits a signed 32-bit number
+unfoldable pub signedOf : Split → Decimal
+signedOf (Nat n) = cond (ltb n 2147483648) (Number (pos n)) Malformed
+signedOf (Neg n) = cond (ltb n 2147483648) (Number (negsuc n)) Malformed
 
 -- a magnitude as a number, and negated; there is no -0
 abbrev pub positive : Magnitude → Decimal
-positive (Value v) = decided (signedOf (Nat v))
+positive (Value v) = signedOf (Nat v)
 positive Bad = Malformed
 
 abbrev pub negative : Magnitude → Decimal
 negative (Value zero) = Malformed
-negative (Value (suc v)) = decided (signedOf (Neg v))
+negative (Value (suc v)) = signedOf (Neg v)
 negative Bad = Malformed
 
 -- the number that a list of bytes is the decimal of
 unfoldable pub parseOf : List ℕ → Decimal
 unfolding signedOf
 parseOf [] = Malformed
-parseOf (b ∷ bs) = cond (eqb b 45) (negative (plain bs)) (positive (plain (b ∷ bs)))
+parseOf (b ∷ bs) = cond (eqb b 45) (negative (unsignedOf bs)) (positive (unsignedOf (b ∷ bs)))
 
 -- how far the reader of magnitudes counts: no number of 32 bits is further from 0
 unfoldable pub capped : Magnitude → Magnitude

@@ -1,10 +1,8 @@
 // Canonical decimals: no plus sign, no leading zero, no -0, within a signed 32-bit number.
 // This crate reads them; `buffer` writes them.
-use integer::Signed;
 use integer::Split;
 ghost use mathlib.Core.Path.{_≡_};
-ghost use Rattle.integer.specs.Range.{signedOf};
-ghost use Rattle.decimal.specs.Decimal.{digitsFrom, capped, plain, decided, parseOf};
+ghost use Rattle.decimal.specs.Decimal.{digitsFrom, capped, unsignedOf, signedOf, parseOf};
 
 // The value of a run of digits.
 pub enum Magnitude {
@@ -48,7 +46,7 @@ fn digits(s: &[u8]) -> Magnitude
 
 // The value of an unsigned decimal without a leading zero, up to 2147483648.
 fn magnitude_of(s: &[u8]) -> Magnitude
-    ensures { λ r. ⌜ r ≡ capped (plain (now (s .entry))) ⌝ }
+    ensures { λ r. ⌜ r ≡ capped (unsignedOf (now (s .entry))) ⌝ }
 {
     let n = s.len();
     if n == 0 {
@@ -64,12 +62,21 @@ fn magnitude_of(s: &[u8]) -> Magnitude
     digits(s)
 }
 
-fn decide(s: Split) -> Decimal
-    ensures { λ r. ⌜ r ≡ decided (signedOf s) ⌝ }
+// The number of a sign and a distance, where it fits.
+fn from_sign(s: Split) -> Decimal
+    ensures { λ r. ⌜ r ≡ signedOf s ⌝ }
 {
-    match integer::from_sign(s) {
-        Signed::Number(z) => Decimal::Number(z),
-        Signed::Beyond => Decimal::Malformed,
+    match s {
+        Split::Nat(n) => if n < 2147483648 {
+            Decimal::Number(n as i32)
+        } else {
+            Decimal::Malformed
+        },
+        Split::Neg(n) => if n < 2147483648 {
+            Decimal::Number(-1 - n as i32)
+        } else {
+            Decimal::Malformed
+        },
     }
 }
 
@@ -89,14 +96,14 @@ pub fn read_decimal(s: &[u8]) -> Decimal
                 if v == 0 {
                     return Decimal::Malformed;
                 }
-                decide(Split::Neg((v - 1) as u32))
+                from_sign(Split::Neg((v - 1) as u32))
             }
             Magnitude::Bad => Decimal::Malformed,
         }
     } else {
         let m = magnitude_of(s);
         match m {
-            Magnitude::Value(v) => decide(Split::Nat(v as u32)),
+            Magnitude::Value(v) => from_sign(Split::Nat(v as u32)),
             Magnitude::Bad => Decimal::Malformed,
         }
     }

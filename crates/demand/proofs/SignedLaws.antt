@@ -1,14 +1,14 @@
 -- The demand of a reading that is held with 1024 added is that of its t. Assumes nothing.
-use Prim.Native.Nat.{ℕ, zero, suc, _+_, _-_, _*_, _<_}
-use mathlib.Core.Path.{_≡_, refl, sym, _∙_}
+use Prim.Native.Nat.{ℕ, zero, suc, _+_, _-_, _*_}
+use mathlib.Core.Path.{_≡_, refl, _∙_}
 use mathlib.Core.Bool.{Bool, true, false, cond}
 use native.Mathlib.Omega.{arith}
-use borrow.Author.Tests.{ltb-true, ltb-false}
+use borrow.Author.Tests.{ltb-true}
 use lib.Dec.{ltb}
 use lib.IntN.{ℤ, pos, negsuc, _-ℤ_, subℕ}
-use Rattle.integer.specs.Range.{eighthsOf, natural}
-use Rattle.integer.specs.declared.Ranged.{Ranged}
+use Rattle.integer.specs.Range.{eighthsOf}
 use Rattle.integer.specs.declared.Ranged.the-variants.{In, Out}
+use Rattle.rules.specs.Events.{natural}
 use Rattle.demand.specs.Demand.{slopeOf, demandOf}
 use Rattle.demand.specs.Signed.{FaithfulDemand}
 

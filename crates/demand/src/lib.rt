@@ -4,7 +4,9 @@ use part::ChannelId;
 use part::FanId;
 ghost use mathlib.Core.Path.{_≡_};
 ghost use Prim.Native.Nat.{_+_, _-_, _*_, min, max};
-ghost use Rattle.demand.specs.Demand.{tminOf, rangeOf, slopeOf, demandOf, codeOf, ownOf, isRemote1, isRemote2, assignedOf, asked, targetOf, overriddenOf};
+ghost use Rattle.rules.specs.Fields.{speedCode};
+ghost use Rattle.rules.specs.Targets.{tminOf, rangeOf, isOwn, isRemote1, isRemote2, assignedBy, demandIf, targetOf};
+ghost use Rattle.demand.specs.Demand.{slopeOf, demandOf, overriddenOf};
 
 // The slots that a reading this far above Tmin adds: 20 / R is 4, 2, 1, 1/2, 1/4.
 pub fn slope(above: u16, control: u8) -> u32
@@ -46,7 +48,7 @@ pub fn demand(flag: bool, m: u8, control: u8, reading: u16) -> u8
 }
 
 pub fn speed_code(fan: FanId, speeds: u8) -> u8
-    ensures { λ r. ⌜ r ≡ codeOf fan speeds ⌝ }
+    ensures { λ r. ⌜ r ≡ speedCode fan speeds ⌝ }
 {
     match fan {
         FanId::One => speeds % 16,
@@ -55,19 +57,19 @@ pub fn speed_code(fan: FanId, speeds: u8) -> u8
 }
 
 // Whether a fan follows a channel in automatic mode, by bits 6, 5 of 0x00.
-pub fn assigned(mode: u8, fan: FanId, channel: ChannelId) -> bool
-    ensures { λ r. ⌜ r ≡ assignedOf mode fan channel ⌝ }
+pub fn assigned(assignment: u8, fan: FanId, channel: ChannelId) -> bool
+    ensures { λ r. ⌜ r ≡ assignedBy assignment fan channel ⌝ }
 {
-    match mode {
-        0 => own(fan, channel),
+    match assignment {
+        0 => is_own(fan, channel),
         1 => is_remote1(channel),
         2 => is_remote2(channel),
         _ => true,
     }
 }
 
-fn own(fan: FanId, channel: ChannelId) -> bool
-    ensures { λ r. ⌜ r ≡ ownOf fan channel ⌝ }
+fn is_own(fan: FanId, channel: ChannelId) -> bool
+    ensures { λ r. ⌜ r ≡ isOwn fan channel ⌝ }
 {
     match fan {
         FanId::One => is_remote1(channel),
@@ -95,8 +97,8 @@ fn is_remote2(channel: ChannelId) -> bool
     }
 }
 
-fn asked_of(assigned: bool, demand: u8) -> u8
-    ensures { λ r. ⌜ r ≡ asked assigned demand ⌝ }
+fn demand_if(assigned: bool, demand: u8) -> u8
+    ensures { λ r. ⌜ r ≡ demandIf assigned demand ⌝ }
 {
     if assigned { demand } else { 0 }
 }
@@ -112,12 +114,12 @@ pub fn target(config1: u8, speeds: u8, fan: FanId, local: u8, remote1: u8, remot
     ensures { λ r. ⌜ r ≡ targetOf config1 speeds fan local remote1 remote2 ⌝ }
 {
     if integer::bit(config1, 7) {
-        let mode = config1 / 32 % 4;
+        let assignment = config1 / 32 % 4;
         larger(
-            asked_of(assigned(mode, fan, ChannelId::Local), local),
+            demand_if(assigned(assignment, fan, ChannelId::Local), local),
             larger(
-                asked_of(assigned(mode, fan, ChannelId::Remote1), remote1),
-                asked_of(assigned(mode, fan, ChannelId::Remote2), remote2),
+                demand_if(assigned(assignment, fan, ChannelId::Remote1), remote1),
+                demand_if(assigned(assignment, fan, ChannelId::Remote2), remote2),
             ),
         )
     } else {
@@ -125,8 +127,8 @@ pub fn target(config1: u8, speeds: u8, fan: FanId, local: u8, remote1: u8, remot
     }
 }
 
-pub fn overridden(low: bool, behaviour: u8, latched: bool) -> bool
-    ensures { λ r. ⌜ r ≡ overriddenOf low behaviour latched ⌝ }
+pub fn overridden(pin_low: bool, behaviour: u8, therm: bool) -> bool
+    ensures { λ r. ⌜ r ≡ overriddenOf «pin_low» behaviour therm ⌝ }
 {
-    low | (integer::bit(behaviour, 7) & latched)
+    pin_low | (integer::bit(behaviour, 7) & therm)
 }

@@ -8,8 +8,8 @@ use borrow.Author.Tests.{eq-eqb, ne-eqb}
 use Rattle.drive.specs.declared.Setting.{Setting}
 use Rattle.drive.specs.declared.FanInput.{FanInput}
 use Rattle.drive.specs.declared.Drive.{Drive}
-use Rattle.drive.specs.Ramp.{nearerOf}
-use Rattle.drive.specs.Drive.{dutyOf, spinUpStarts, leftOf, drivenOf}
+use Rattle.rules.specs.Duties.{nearer}
+use Rattle.drive.specs.Drive.{dutyOf, startsOf, leftOf, drivenOf}
 use Rattle.drive.specs.Tach.{runOf}
 
 -- Rule 5, each line of it.
@@ -30,7 +30,7 @@ module _ (s : Setting) (period spinning : Bool) (was : ℕ) where
   unfolding dutyOf
   duty-spin p q r l = simp (p, q, ne-eqb _ _ r, l)
 
-  pub duty-period : {n : ℕ} → s .enabled ≡ true → s .overridden ≡ false → (s .target ≡ 0 → ⊥) → spinning ≡ false → s .filtered ≡ true → period ≡ true → n ≡ nearerOf (s .rate) (s .target) was → n ≡ dutyOf s period spinning was
+  pub duty-period : {n : ℕ} → s .enabled ≡ true → s .overridden ≡ false → (s .target ≡ 0 → ⊥) → spinning ≡ false → s .filtered ≡ true → period ≡ true → n ≡ nearer (s .rate) (s .target) was → n ≡ dutyOf s period spinning was
   unfolding dutyOf
   duty-period p q r l f t e = simp (p, q, ne-eqb _ _ r, l, f, t) e
 
@@ -43,7 +43,7 @@ module _ (s : Setting) (period spinning : Bool) (was : ℕ) where
   duty-plain p q r l f = simp (p, q, ne-eqb _ _ r, l, f)
 
 -- Rule 6: the clock events left, by what `starts` answered.
-module _ (s : Setting) (b : FanInput) (d : Drive) {begun : Bool} (e : begun ≡ spinUpStarts s b (d .duty)) where
+module _ (s : Setting) (b : FanInput) (d : Drive) {begun : Bool} (e : begun ≡ startsOf s b (d .duty)) where
   pub left-starts : begun ≡ true → s .«spin_up» ≡ leftOf s b d
   unfolding leftOf
   left-starts p = simp (sym e ∙ p)

@@ -8,35 +8,36 @@ use lib.Dec.{ltb}
 use lib.ListN.{length, replicate}
 use borrow.Author.Tests.{ltb-true, ltb-false}
 use Rattle.integer.proofs.BoolLaws.{by-cases}
-use Rattle.drive.specs.Ramp.{nearerOf, outside, ramped, Between, RampLaw}
+use Rattle.rules.specs.Duties.{nearer}
+use Rattle.drive.specs.Ramp.{outside, ramped, Between, RampLaw}
 
 -- one step, without its test
-pub nearer-is : (r t d : ℕ) → nearerOf r t d ≡ max (d - r) (min (d + r) t)
-unfolding nearerOf
+pub nearer-is : (r t d : ℕ) → nearer r t d ≡ max (d - r) (min (d + r) t)
+unfolding nearer
 nearer-is r t d =
     by-cases (ltb d t)
     (λ e. simp e (omega (arith, ltb-true d t e)))
     (λ e. simp e (omega (arith, ltb-false d t e)))
 
-pub nearer-pos : (r t d : ℕ) → 0 < t → 0 < d → 0 < nearerOf r t d
+pub nearer-pos : (r t d : ℕ) → 0 < t → 0 < d → 0 < nearer r t d
 nearer-pos r t d h k = rw nearer-is (omega arith)
 
-pub nearer-below : (r t d : ℕ) → d ≤ t → (d ≤ nearerOf r t d) × (nearerOf r t d ≤ t)
+pub nearer-below : (r t d : ℕ) → d ≤ t → (d ≤ nearer r t d) × (nearer r t d ≤ t)
 nearer-below r t d h = rw nearer-is (omega arith, omega arith)
 
-pub nearer-above : (r t d : ℕ) → t ≤ d → (t ≤ nearerOf r t d) × (nearerOf r t d ≤ d)
+pub nearer-above : (r t d : ℕ) → t ≤ d → (t ≤ nearer r t d) × (nearer r t d ≤ d)
 nearer-above r t d h = rw nearer-is (omega arith, omega arith)
 
-up : (r t d : ℕ) → d ≤ t → nearerOf r t d ≡ min (d + r) t
+up : (r t d : ℕ) → d ≤ t → nearer r t d ≡ min (d + r) t
 up r t d h = rw nearer-is (omega arith)
 
-down : (r t d : ℕ) → t ≤ d → nearerOf r t d ≡ max (d - r) t
+down : (r t d : ℕ) → t ≤ d → nearer r t d ≡ max (d - r) t
 down r t d h = rw nearer-is (omega arith)
 
 sides : {P : Type 0} (d t : ℕ) → (d ≤ t → P) → (t ≤ d → P) → P
 sides d t f g = by-cases (ltb d t) (λ e. f (omega (arith, ltb-true d t e))) (λ e. g (ltb-false d t e))
 
-pub nearer-sum : (i j t d : ℕ) → nearerOf i t (nearerOf j t d) ≡ nearerOf (i + j) t d
+pub nearer-sum : (i j t d : ℕ) → nearer i t (nearer j t d) ≡ nearer (i + j) t d
 nearer-sum i j t d =
     sides d t
     (λ h. rw (up j t d h, up i t (min (d + j) t) (omega arith), up (i + j) t d h) (omega arith))
@@ -50,38 +51,38 @@ over : (a b d : ℕ) → a ≤ d → outside a b d ≡ d - b
 unfolding outside
 over a b d h = omega arith
 
-pub nearer-step : (a b r t d : ℕ) → a ≤ t → t ≤ b → outside a b (nearerOf r t d) ≡ outside a b d - r
+pub nearer-step : (a b r t d : ℕ) → a ≤ t → t ≤ b → outside a b (nearer r t d) ≡ outside a b d - r
 nearer-step a b r t d h k =
     sides d t
     (λ l. rw (up r t d l, under a b (min (d + r) t) (omega arith), under a b d (omega arith)) (omega arith))
     (λ l. rw (down r t d l, over a b (max (d - r) t) (omega arith), over a b d (omega arith)) (omega arith))
 
-pub still-distance : (amount t d : ℕ) → outside t t (nearerOf amount t d) ≡ outside t t d - amount
+pub still-distance : (amount t d : ℕ) → outside t t (nearer amount t d) ≡ outside t t d - amount
 still-distance amount t d = nearer-step t t amount t d (omega arith) (omega arith)
 
 module _ (a b rate : ℕ) where
   falls : (ts : List ℕ) (duty : ℕ) → Between a b ts → outside a b (ramped rate ts duty) ≡ outside a b duty - length ts * rate
   unfolding ramped Between
   falls [] duty h = omega arith
-  falls (t ∷ ts) duty (h, k, hs) = omega (arith, falls ts (nearerOf rate t duty) hs, nearer-step a b rate t duty h k, suc-mul (length ts) rate)
+  falls (t ∷ ts) duty (h, k, hs) = omega (arith, falls ts (nearer rate t duty) hs, nearer-step a b rate t duty h k, suc-mul (length ts) rate)
 
   below : (ts : List ℕ) (duty : ℕ) → Between a b ts → duty ≤ b → ramped rate ts duty ≤ b
   unfolding ramped Between
   below [] duty h l = l
-  below (t ∷ ts) duty (h, k, hs) l = below ts (nearerOf rate t duty) hs (rw nearer-is (omega arith))
+  below (t ∷ ts) duty (h, k, hs) l = below ts (nearer rate t duty) hs (rw nearer-is (omega arith))
 
   above : (ts : List ℕ) (duty : ℕ) → Between a b ts → a ≤ duty → a ≤ ramped rate ts duty
   unfolding ramped Between
   above [] duty h l = l
-  above (t ∷ ts) duty (h, k, hs) l = above ts (nearerOf rate t duty) hs (rw nearer-is (omega arith))
+  above (t ∷ ts) duty (h, k, hs) l = above ts (nearer rate t duty) hs (rw nearer-is (omega arith))
 
 pub ramp-law : (a b rate : ℕ) (ts : List ℕ) (duty : ℕ) → Between a b ts → RampLaw a b rate ts duty
 ramp-law a b rate ts duty h =
     record { falls = falls a b rate ts duty h; below = below a b rate ts duty h; above = above a b rate ts duty h }
 
 -- a target that stands still for k periods
-pub ramp-still : (rate t duty k : ℕ) → ramped rate (replicate k t) duty ≡ nearerOf (k * rate) t duty
+pub ramp-still : (rate t duty k : ℕ) → ramped rate (replicate k t) duty ≡ nearer (k * rate) t duty
 unfolding ramped
 ramp-still rate t duty zero = rw nearer-is (omega arith)
 ramp-still rate t duty (suc k) =
-    ramp-still rate t (nearerOf rate t duty) k ∙ (nearer-sum (k * rate) rate t duty ∙ ap (λ (n : ℕ). nearerOf n t duty) (sym (suc-mul k rate)))
+    ramp-still rate t (nearer rate t duty) k ∙ (nearer-sum (k * rate) rate t duty ∙ ap (λ (n : ℕ). nearer n t duty) (sym (suc-mul k rate)))

@@ -1,22 +1,11 @@
 -- Document 01, "Duty in slots", rules 5 to 7: what one event does to a fan.
-use Prim.Native.Nat.{ℕ, _-_, _%_}
+use Prim.Native.Nat.{ℕ, _-_}
 use mathlib.Core.Bool.{Bool, cond, _&&_, _||_}
 use lib.Dec.{ltb, eqb}
-use Rattle.drive.specs.Ramp.{nearerOf}
+use Rattle.rules.specs.Duties.{nearer}
 use Rattle.drive.specs.declared.Setting.{Setting}
 use Rattle.drive.specs.declared.FanInput.{FanInput}
 use Rattle.drive.specs.declared.Drive.{Drive}
-
--- rule 6: the clock events of a spin-up, by bits 2:0 of 0x20 or 0x21 (Table 9 of 000, in tenths of a second)
-unfoldable pub spinUpOf : ℕ → ℕ
-spinUpOf characteristics =
-    cond (eqb (characteristics % 8) 0) 2
-    (cond (eqb (characteristics % 8) 1) 4
-    (cond (eqb (characteristics % 8) 2) 6
-    (cond (eqb (characteristics % 8) 3) 8
-    (cond (eqb (characteristics % 8) 4) 10
-    (cond (eqb (characteristics % 8) 5) 20
-    (cond (eqb (characteristics % 8) 6) 40 80))))))
 
 -- rule 5: the duty after the event, the first that applies; `was` is the duty before it
 unfoldable pub dutyOf : Setting → (period spinning : Bool) → (was : ℕ) → ℕ
@@ -25,23 +14,23 @@ dutyOf s period spinning was =
     (cond (s .overridden) 240
     (cond (eqb (s .target) 0) 0
     (cond spinning 240
-    (cond (s .filtered) (cond period (nearerOf (s .rate) (s .target) was) was) (s .target)))))
+    (cond (s .filtered) (cond period (nearer (s .rate) (s .target) was) was) (s .target)))))
     0
 
 -- rule 6: whether a spin-up starts
-unfoldable pub spinUpStarts : Setting → FanInput → (was : ℕ) → Bool
-spinUpStarts s b was = b .failed || (eqb was 0 && (s .enabled && (ltb 0 (s .target) || s .overridden)))
+unfoldable pub startsOf : Setting → FanInput → (was : ℕ) → Bool
+startsOf s b was = b .failed || (eqb was 0 && (s .enabled && (ltb 0 (s .target) || s .overridden)))
 
 -- rule 6: the clock events left of the spin-up, before the duty is known
 unfoldable pub leftOf : Setting → FanInput → Drive → ℕ
-leftOf s b d = cond (spinUpStarts s b (d .duty)) (s .«spin_up») (cond (b .clock) (d .left - 1) (d .left))
+leftOf s b d = cond (startsOf s b (d .duty)) (s .«spin_up») (cond (b .clock) (d .left - 1) (d .left))
 
 -- rule 6: a spin-up ends early when the duty becomes 0
-abbrev pub keptOf : (duty left : ℕ) → Drive
-keptOf duty left = record { duty = duty; left = cond (eqb duty 0) 0 left }
+abbrev pub driveAt : (duty left : ℕ) → Drive
+driveAt duty left = record { duty = duty; left = cond (eqb duty 0) 0 left }
 
 unfoldable pub drivenOf : Setting → FanInput → Drive → Drive
-drivenOf s b d = keptOf (dutyOf s (b .period) (ltb 0 (leftOf s b d)) (d .duty)) (leftOf s b d)
+drivenOf s b d = driveAt (dutyOf s (b .period) (ltb 0 (leftOf s b d)) (d .duty)) (leftOf s b d)
 
 -- rule 7: a fan is at alarm speed while enabled and overridden; entering that state sets its alarm bit
 abbrev pub alarmOf : Setting → Bool

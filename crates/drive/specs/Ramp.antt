@@ -1,21 +1,9 @@
--- Document 01, "Duty in slots", rule 5, the filter: nearer to the target, never past it.
-use Prim.Native.Nat.{ℕ, _+_, _-_, _*_, _/_, _%_, _≤_, min, max}
+-- The law of the ramp (document 01, "Duty in slots", rule 5): what a run of periods does to a duty.
+use Prim.Native.Nat.{ℕ, _+_, _-_, _*_, _≤_}
 use mathlib.Core.Path.{_≡_}
-use mathlib.Core.Bool.{cond}
 use mathlib.Core.List.{List, [], _∷_}
-use lib.Dec.{ltb, eqb}
 use lib.ListN.{length}
-
--- the ramp rate: 1, 2, 4, 8 by bits 6:5 of 0x23
-unfoldable pub rateOf : ℕ → ℕ
-rateOf filter =
-    cond (eqb (filter / 32 % 4) 0) 1
-    (cond (eqb (filter / 32 % 4) 1) 2
-    (cond (eqb (filter / 32 % 4) 2) 4 8))
-
--- nearer to the target by an amount, never past it
-unfoldable pub nearerOf : (amount target duty : ℕ) → ℕ
-nearerOf amount target duty = cond (ltb duty target) (min (duty + amount) target) (max (duty - amount) target)
+use Rattle.rules.specs.Duties.{nearer}
 
 -- how far a duty is outside the interval from a to b
 unfoldable pub outside : (a b duty : ℕ) → ℕ
@@ -24,7 +12,7 @@ outside a b duty = (a - duty) + (duty - b)
 -- the duty after one period for each target, in their order
 unfoldable pub ramped : (rate : ℕ) → List ℕ → ℕ → ℕ
 ramped rate [] duty = duty
-ramped rate (t ∷ ts) duty = ramped rate ts (nearerOf rate t duty)
+ramped rate (t ∷ ts) duty = ramped rate ts (nearer rate t duty)
 
 -- each target lies in the interval
 unfoldable pub Between : (a b : ℕ) → List ℕ → Type 0

@@ -1,8 +1,8 @@
 // What one event does to a fan, on plain numbers: ramp, spin-up, duty, alarm speed and judged tach counts.
 // A duty is in slots of 240.
 ghost use mathlib.Core.Path.{_≡_};
-ghost use Rattle.drive.specs.Ramp.{rateOf, nearerOf};
-ghost use Rattle.drive.specs.Drive.{spinUpOf, dutyOf, spinUpStarts, leftOf, drivenOf, alarmOf};
+ghost use Rattle.rules.specs.Duties.{rateOf, spinUpOf, nearer};
+ghost use Rattle.drive.specs.Drive.{dutyOf, startsOf, leftOf, drivenOf, alarmOf};
 ghost use Rattle.drive.specs.Tach.{judgedOf, failedOf, runOf};
 
 // What registers, pin and channels ask of a fan after an event.
@@ -58,7 +58,7 @@ pub fn spin_up_clocks(characteristics: u8) -> u8
 
 // Nearer to the target by an amount, never past it.
 pub fn nearer(amount: u32, target: u8, duty: u8) -> u8
-    ensures { λ r. ⌜ r ≡ nearerOf amount target duty ⌝ }
+    ensures { λ r. ⌜ r ≡ nearer amount target duty ⌝ }
 {
     if duty < target {
         if (target - duty) as u32 <= amount {
@@ -102,7 +102,7 @@ pub fn duty_after(s: Setting, period: bool, spinning: bool, was: u8) -> u8
 }
 
 pub fn starts(s: Setting, b: FanInput, was: u8) -> bool
-    ensures { λ r. ⌜ r ≡ spinUpStarts s b was ⌝ }
+    ensures { λ r. ⌜ r ≡ startsOf s b was ⌝ }
 {
     b.failed | ((was == 0) & (s.enabled & ((0 < s.target) | s.overridden)))
 }

@@ -3,6 +3,7 @@ use Prim.Native.Nat.{ℕ}
 use mathlib.Core.Bool.{Bool}
 use mathlib.Core.List.{List, [], _∷_}
 use lib.Dec.{eqb}
+use lib.ListN.{getD}
 use Rattle.event.specs.declared.Numbers.{Numbers}
 use Rattle.event.specs.declared.Transfer.the-variants as transfer
 use Rattle.event.specs.declared.Event.{Event}
@@ -46,6 +47,10 @@ eventOf kind.Period n = event.Period n
 -- every kind, in the order of the table
 abbrev pub kinds : List Kind
 kinds = kind.Power ∷ kind.Write ∷ kind.Point ∷ kind.Read ∷ kind.Sample ∷ kind.Tach ∷ kind.Pin ∷ kind.Clock ∷ kind.Period ∷ []
+
+-- the kind at a place of the table; the first one past its end
+abbrev pub kindAt : (place : ℕ) → Kind
+kindAt place = getD kinds place kind.Power
 
 -- a kind's place in the table, by which kinds are told apart
 abbrev pub placeOf : Kind → ℕ

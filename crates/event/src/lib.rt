@@ -1,8 +1,8 @@
 // The vocabulary of the chip's border: the events that it takes, the answers that it gives, the outputs that it shows.
 // Nothing here acts; every crate above speaks in these terms.
 ghost use mathlib.Core.Path.{_≡_};
-ghost use Rattle.event.specs.Kinds.{kindOf, numbersOf, eventOf, placeOf};
-ghost use Rattle.event.specs.Answers.{numberOf, dataOf};
+ghost use Rattle.event.specs.Kinds.{kindOf, numbersOf, eventOf, placeOf, kindAt};
+ghost use Rattle.event.specs.Answers.{refusalNumber, numberOf, dataOf};
 
 // The three numbers of an event.
 pub struct Numbers {
@@ -122,9 +122,30 @@ pub fn place_of(k: Kind) -> u8
     }
 }
 
-// What an event, an image or a text is answered. Only a read hands out data that is not 0.
-pub enum Answer {
-    Done(u8),
+pub const KIND_COUNT: u16 = 9;
+
+const KINDS: [Kind; 9] = [
+    Kind::Power,
+    Kind::Write,
+    Kind::Point,
+    Kind::Read,
+    Kind::Sample,
+    Kind::Tach,
+    Kind::Pin,
+    Kind::Clock,
+    Kind::Period,
+];
+
+// The kind at a place of the table; the first one past its end.
+pub fn kind_at(place: u16) -> Kind
+    ensures { λ r. ⌜ r ≡ kindAt place ⌝ }
+{
+    let at = place as usize;
+    if at < 9 { KINDS[at] } else { Kind::Power }
+}
+
+// Why an event, an image or a text is refused: the replies of document 01 from 1, in their order.
+pub enum Refusal {
     NoPower,
     OtherAddress,
     NoSuchPart,
@@ -138,22 +159,36 @@ pub enum Answer {
     WrongSize,
 }
 
+// What an event, an image or a text is answered: done, with data that only a read hands out, or a refusal.
+pub enum Answer {
+    Done(u8),
+    Refused(Refusal),
+}
+
+pub fn refusal_number(r: Refusal) -> u8
+    ensures { λ n. ⌜ n ≡ refusalNumber r ⌝ }
+{
+    match r {
+        Refusal::NoPower => 1,
+        Refusal::OtherAddress => 2,
+        Refusal::NoSuchPart => 3,
+        Refusal::NoSuchRegister => 4,
+        Refusal::ReadOnly => 5,
+        Refusal::OutOfRange => 6,
+        Refusal::BadRangeCode => 7,
+        Refusal::OddLocal => 8,
+        Refusal::NotMonitoring => 9,
+        Refusal::Malformed => 10,
+        Refusal::WrongSize => 11,
+    }
+}
+
 pub fn number_of(a: Answer) -> u8
     ensures { λ r. ⌜ r ≡ numberOf a ⌝ }
 {
     match a {
         Answer::Done(_) => 0,
-        Answer::NoPower => 1,
-        Answer::OtherAddress => 2,
-        Answer::NoSuchPart => 3,
-        Answer::NoSuchRegister => 4,
-        Answer::ReadOnly => 5,
-        Answer::OutOfRange => 6,
-        Answer::BadRangeCode => 7,
-        Answer::OddLocal => 8,
-        Answer::NotMonitoring => 9,
-        Answer::Malformed => 10,
-        Answer::WrongSize => 11,
+        Answer::Refused(r) => refusal_number(r),
     }
 }
 
@@ -162,17 +197,7 @@ pub fn data_of(a: Answer) -> u8
 {
     match a {
         Answer::Done(d) => d,
-        Answer::NoPower => 0,
-        Answer::OtherAddress => 0,
-        Answer::NoSuchPart => 0,
-        Answer::NoSuchRegister => 0,
-        Answer::ReadOnly => 0,
-        Answer::OutOfRange => 0,
-        Answer::BadRangeCode => 0,
-        Answer::OddLocal => 0,
-        Answer::NotMonitoring => 0,
-        Answer::Malformed => 0,
-        Answer::WrongSize => 0,
+        Answer::Refused(_) => 0,
     }
 }
 
@@ -183,10 +208,4 @@ pub struct Shown {
     pub fault: u8,
     pub duty1: u8,
     pub duty2: u8,
-}
-
-// An answer, and the outputs after it.
-pub struct Outcome {
-    pub answer: Answer,
-    pub shown: Shown,
 }

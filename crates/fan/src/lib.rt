@@ -1,4 +1,4 @@
-// A fan, and what an accepted event makes of it: duty and spin-up, run of failures, alarm speed, status bits.
+// A fan, and what an event makes of it: duty and spin-up, run of failures, alarm speed, status bits.
 // One function serves both.
 use channel::Channel;
 use channel::Channels;
@@ -9,10 +9,10 @@ use event::Kind;
 use input::Input;
 use part::FanId;
 use stored::ChannelRegisters;
-use stored::FanRegisters;
+use stored::Context;
 use stored::Registers;
 ghost use mathlib.Core.Path.{_≡_};
-ghost use Rattle.fan.specs.Fans.{channelDemand, fanTarget, overrideOf, settingOf, priorFan, judgesFan, failsFan, fanInputOf, fanRun, fanAfter, fanIn};
+ghost use Rattle.fan.specs.Fans.{channelDemand, fanTarget, settingOf, priorFan, judgesFan, failsFan, fanInputOf, fanRun, fanUnder, fanAfter};
 
 // Duty and spin-up, run of failures, whether it is at alarm speed; then the alarm and fault status bits.
 pub struct Fan {
@@ -47,30 +47,26 @@ fn fan_target(f: FanId, s: Registers, cs: Channels) -> u8
     )
 }
 
-fn is_overridden(low: bool, s: Registers, cs: Channels) -> bool
-    ensures { λ r. ⌜ r ≡ overrideOf low s cs ⌝ }
-{
-    demand::overridden(low, s.behaviour, channel::therm(cs))
-}
-
 // What registers, pin and channels ask of a fan.
-pub fn setting(f: FanId, low: bool, s: Registers, b: FanRegisters, cs: Channels) -> Setting
-    ensures { λ r. ⌜ r ≡ settingOf f low s b cs ⌝ }
+pub fn setting(f: FanId, pin_low: bool, s: Registers, cs: Channels) -> Setting
+    ensures { λ r. ⌜ r ≡ settingOf f «pin_low» s cs ⌝ }
 {
+    let own = stored::fan_registers_of(s, f);
     Setting {
         enabled: stored::output_enabled(f, s.config2),
-        overridden: is_overridden(low, s, cs),
+        overridden: demand::overridden(pin_low, s.behaviour, channel::therm(cs)),
         filtered: stored::filter_enabled(f, s.filter),
         target: fan_target(f, s, cs),
         rate: drive::ramp_rate(s.filter),
-        spin_up: drive::spin_up_clocks(b.characteristics),
+        spin_up: drive::spin_up_clocks(own.characteristics),
     }
 }
 
-fn prior(r: Input, was: Fan) -> Fan
-    ensures { λ w. ⌜ w ≡ priorFan r was ⌝ }
+// The fan that an event finds: one at rest before a start afresh.
+fn prior(i: Input, was: Fan) -> Fan
+    ensures { λ w. ⌜ w ≡ priorFan i was ⌝ }
 {
-    if input::is_restart(r) {
+    if input::is_restart(i) {
         Fan {
             drive: Drive { duty: 0, left: 0 },
             run: 0,
@@ -84,24 +80,26 @@ fn prior(r: Input, was: Fan) -> Fan
 }
 
 // Whether the event is a judged count of the fan, and a failure.
-fn judges(f: FanId, tach: bool, r: Input, d: Drive) -> bool
-    ensures { λ b. ⌜ b ≡ judgesFan f tach r (d .duty) (d .left) ⌝ }
+fn judges(f: FanId, m: Context, d: Drive) -> bool
+    ensures { λ b. ⌜ b ≡ judgesFan f m d ⌝ }
 {
-    input::is_count(f, r) & drive::judged(tach, d)
+    let tach = stored::tach_enabled(f, m.registers.config2);
+    input::is_count(f, m.input) & drive::judged(tach, d)
 }
 
-fn fails(f: FanId, tach: bool, limit: u8, r: Input, d: Drive) -> bool
-    ensures { λ b. ⌜ b ≡ failsFan f tach limit r (d .duty) (d .left) ⌝ }
+fn fails(f: FanId, m: Context, d: Drive) -> bool
+    ensures { λ b. ⌜ b ≡ failsFan f m d ⌝ }
 {
-    drive::failed(judges(f, tach, r, d), limit, r.val)
+    let own = stored::fan_registers_of(m.registers, f);
+    drive::failed(judges(f, m, d), own.limit, input::byte_in(m.input))
 }
 
-fn fan_input(f: FanId, failed: bool, r: Input) -> FanInput
-    ensures { λ b. ⌜ b ≡ fanInputOf f failed r ⌝ }
+fn fan_input(f: FanId, failed: bool, i: Input) -> FanInput
+    ensures { λ b. ⌜ b ≡ fanInputOf f failed i ⌝ }
 {
     FanInput {
-        clock: input::is_a(Kind::Clock, r),
-        period: input::is_period(f, r),
+        clock: input::is_a(Kind::Clock, i),
+        period: input::is_period(f, i),
         failed,
     }
 }
@@ -117,42 +115,30 @@ fn run_after(tach: bool, judged: bool, failed: bool, was: u8) -> u8
 }
 
 // The fan after an event, from what is asked of it then and the fan before it.
-fn fan_after(f: FanId, s: Setting, tach: bool, limit: u8, pointer: u8, r: Input, w: Fan) -> Fan
-    ensures { λ b. ⌜ b ≡ fanAfter f s tach limit pointer r w ⌝ }
+fn fan_under(f: FanId, s: Setting, m: Context, w: Fan) -> Fan
+    ensures { λ b. ⌜ b ≡ fanUnder f s m w ⌝ }
 {
-    let failed = fails(f, tach, limit, r, w.drive);
+    let failed = fails(f, m, w.drive);
     let alarmed = drive::at_alarm(s);
-    let read = input::is_read(stored::status_at(f), pointer, r);
+    let read = input::is_read(stored::status_at(f), m.pointer, m.input);
+    let tach = stored::tach_enabled(f, m.registers.config2);
     Fan {
-        drive: drive::driven(s, fan_input(f, failed, r), w.drive),
-        run: run_after(tach, judges(f, tach, r, w.drive), failed, w.run),
+        drive: drive::driven(s, fan_input(f, failed, m.input), w.drive),
+        run: run_after(tach, judges(f, m, w.drive), failed, w.run),
         alarmed,
         alarm: input::bit_after(alarmed & !w.alarmed, read, w.alarm),
         fault: input::bit_after(failed, read, w.fault),
     }
 }
 
-// A fan under registers, pin and channels as they stand after the event; the pointer and the fan as they stood before it.
-pub fn fan_in(
-    f: FanId,
-    low: bool,
-    s: Registers,
-    b: FanRegisters,
-    cs: Channels,
-    pointer: u8,
-    r: Input,
-    was: Fan,
-) -> Fan
-    ensures { λ x. ⌜ x ≡ fanIn f low s b cs pointer r was ⌝ }
+// A fan under registers, pin and channels as they stand after the event.
+pub fn fan_after(f: FanId, pin_low: bool, m: Context, cs: Channels, was: Fan) -> Fan
+    ensures { λ b. ⌜ b ≡ fanAfter f «pin_low» m cs was ⌝ }
 {
-    let tach = stored::tach_enabled(f, s.config2);
-    fan_after(
+    fan_under(
         f,
-        setting(f, low, s, b, cs),
-        tach,
-        b.limit,
-        pointer,
-        r,
-        prior(r, was),
+        setting(f, pin_low, m.registers, cs),
+        m,
+        prior(m.input, was),
     )
 }

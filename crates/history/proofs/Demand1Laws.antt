@@ -1,36 +1,38 @@
 -- Demand 1 holds of every keeper and every event. Assumes nothing.
 use Prim.Native.Nat.{ℕ, zero, suc, _<_, _≤_}
 use mathlib.Core.Path.{_≡_, refl, sym, ap, _∙_}
-use mathlib.Core.Bool.{Bool, true, false, cond, not}
+use mathlib.Core.Bool.{Bool, true, false, cond, not, true≢false}
 use mathlib.Core.List.{List, [], _∷_}
 use native.Mathlib.Omega.{arith}
-use lib.Dec.{eqb}
-use lib.ListN.{getD, List·getD-eq-default}
-use borrow.Author.Tests.{eqb-true, eqb-false, ne-eqb, not-true}
+use lib.Dec.{eqb, ltb}
+use lib.ListN.{length, getD, List·getD-eq-default}
+use borrow.Author.Tests.{eqb-true, eqb-false, ne-eqb, lt-ltb, le-ltb}
 use Rattle.integer.proofs.BoolLaws.{by-cases}
 use Rattle.event.specs.Answers.{numberOf, dataOf}
 use Rattle.event.specs.declared.Answer.{Answer}
-use Rattle.event.specs.declared.Answer.the-variants.{Done, NoPower, OtherAddress, NoSuchPart, NoSuchRegister, ReadOnly, OutOfRange, BadRangeCode, OddLocal, NotMonitoring}
+use Rattle.event.specs.declared.Answer.the-variants.{Done, Refused}
+use Rattle.event.specs.declared.Refusal.the-variants.{NoPower, OtherAddress, NoSuchPart, NoSuchRegister, ReadOnly, OutOfRange, BadRangeCode, OddLocal, NotMonitoring}
 use Rattle.event.specs.declared.Event.{Event}
-use Rattle.judge.specs.Plain.{plainOf}
-use Rattle.judge.specs.Replies.{noPower, otherAddress, noPart, noRegister, readOnly, outOfRange, badCode, oddLocal, notMonitoring, lowest, replyOf, accepts}
-use Rattle.keeper.specs.Keeping.{standingOf, answerOf}
+use Rattle.rules.specs.Replies.{noPower, otherAddress, noPart, noRegister, readOnly, outOfRange, badCode, oddLocal, notMonitoring, lowest, accepts}
+use Rattle.judge.proofs.RightLaws.{right}
+use Rattle.keeper.specs.Keeping.{isOn, standingOf, outcomeOf, shownBy, imageAnswer, imageBuffer}
 use Rattle.keeper.specs.declared.Keeper.{Keeper}
-use Rattle.history.specs.Demand1.{Applies, one, two, three, four, five, six, seven, eight, nine, number, Demand1}
+use Rattle.keeper.specs.declared.Keeper.the-variants.{Off, On}
+use Rattle.history.specs.Demand1.{Applies, one, two, three, four, five, six, seven, eight, nine, number, imageNumber, Demand1}
 
 -- ---- the reply
 
 -- the test of each number; 0 has none
 abbrev tests : Keeper → Event → List Bool
 tests k e =
-    false ∷ noPower (standingOf k) (plainOf e) ∷ otherAddress (standingOf k) (plainOf e) ∷ noPart (plainOf e) ∷ noRegister (plainOf e) ∷ readOnly (plainOf e)
-    ∷ outOfRange (plainOf e) ∷ badCode (plainOf e) ∷ oddLocal (plainOf e) ∷ notMonitoring (standingOf k) (plainOf e) ∷ []
+    false ∷ noPower (isOn k) e ∷ otherAddress (standingOf k .address) e ∷ noPart e ∷ noRegister e ∷ readOnly e
+    ∷ outOfRange e ∷ badCode e ∷ oddLocal e ∷ notMonitoring (standingOf k .monitoring) e ∷ []
 
 abbrev test : Keeper → Event → ℕ → Bool
 test k e n = getD (tests k e) n false
 
-abbrev replyTo : Keeper → Event → Answer
-replyTo k e = replyOf (standingOf k) e
+abbrev replyOf : Keeper → Event → Answer
+replyOf k e = lowest (isOn k) (standingOf k .address) (standingOf k .monitoring) e
 
 -- of the numbers from m up, the answer has the lowest that applies, or 0 where none does; where it is not 0, the data is 0
 record Lowest (k : Keeper) (e : Event) (m : ℕ) (a : Answer) : Type 0 where
@@ -78,47 +80,80 @@ module _ (k : Keeper) (e : Event) where
         empty = rest .empty;
       }))
 
-  chosen : Lowest k e 1 (replyTo k e)
+  chosen : Lowest k e 1 (replyOf k e)
   unfolding lowest
   chosen =
-      before NoPower (omega arith) refl one
-      (before OtherAddress (omega arith) refl two
-      (before NoSuchPart (omega arith) refl three
-      (before NoSuchRegister (omega arith) refl four
-      (before ReadOnly (omega arith) refl five
-      (before OutOfRange (omega arith) refl six
-      (before BadRangeCode (omega arith) refl seven
-      (before OddLocal (omega arith) refl eight
-      (before NotMonitoring (omega arith) refl nine last))))))))
+      before (Refused NoPower) (omega arith) refl one
+      (before (Refused OtherAddress) (omega arith) refl two
+      (before (Refused NoSuchPart) (omega arith) refl three
+      (before (Refused NoSuchRegister) (omega arith) refl four
+      (before (Refused ReadOnly) (omega arith) refl five
+      (before (Refused OutOfRange) (omega arith) refl six
+      (before (Refused BadRangeCode) (omega arith) refl seven
+      (before (Refused OddLocal) (omega arith) refl eight
+      (before (Refused NotMonitoring) (omega arith) refl nine last))))))))
+
+-- ---- the register image
+
+image-off : (k : Keeper) (buffer : List ℕ) → isOn k ≡ false → imageNumber k buffer ≡ 1
+unfolding imageAnswer
+image-off Off buffer y = refl
+image-off (On c) buffer y = absurd (true≢false y)
+
+image-short : (k : Keeper) (buffer : List ℕ) → isOn k ≡ true → length buffer < 64 → imageNumber k buffer ≡ 11
+unfolding imageAnswer
+image-short Off buffer y h = absurd (true≢false (sym y))
+image-short (On c) buffer y h = rw (lt-ltb (length buffer) 64 h)
+
+image-done : (k : Keeper) (buffer : List ℕ) → isOn k ≡ true → 64 ≤ length buffer → imageNumber k buffer ≡ 0
+unfolding imageAnswer
+image-done Off buffer y h = absurd (true≢false (sym y))
+image-done (On c) buffer y h = rw (le-ltb (length buffer) 64 h)
+
+image-kept : (k : Keeper) (buffer : List ℕ) → 0 < imageNumber k buffer → imageBuffer k buffer ≡ buffer
+unfolding imageAnswer imageBuffer
+image-kept Off buffer h = refl
+image-kept (On c) buffer h = by-cases (ltb (length buffer) 64) (λ y. rw y) (λ y. absurd (not-zero (rw y at h)))
+  where
+    not-zero : 0 < 0 → ⊥
+    not-zero z = omega arith
 
 -- ---- the answer
 
--- an event that is accepted has number 0
-accepted-is : (k : Keeper) (e : Event) → accepts (replyTo k e) ≡ true → number k e ≡ 0
-unfolding answerOf
-accepted-is k e t = rw t
+module _ (k : Keeper) (e : Event) (own : standingOf k .address < 256) where
+  -- an event that is accepted has number 0
+  accepted-is : accepts (replyOf k e) ≡ true → number k e ≡ 0
+  unfolding outcomeOf
+  accepted-is t = rw (right (standingOf k) e own, t)
 
--- a refusal is the reply, and leaves the keeper
-refused-is : (k : Keeper) (e : Event) → accepts (replyTo k e) ≡ false → answerOf k e ≡ record { keeper = k; answer = replyTo k e }
-unfolding answerOf
-refused-is k e t = rw t
+  -- a refusal is the reply, and leaves the keeper
+  refused-is : accepts (replyOf k e) ≡ false → outcomeOf k e ≡ record { keeper = k; answer = replyOf k e; shown = shownBy k }
+  unfolding outcomeOf
+  refused-is t = rw (right (standingOf k) e own, t)
 
-number-is : (k : Keeper) (e : Event) → number k e ≡ numberOf (replyTo k e)
-number-is k e =
-    by-cases (accepts (replyTo k e))
-    (λ t. accepted-is k e t ∙ sym (eqb-true (numberOf (replyTo k e)) 0 t))
-    (λ t. rw (refused-is k e t))
+  number-is : number k e ≡ numberOf (replyOf k e)
+  number-is =
+      by-cases (accepts (replyOf k e))
+      (λ t. accepted-is t ∙ sym (eqb-true (numberOf (replyOf k e)) 0 t))
+      (λ t. rw (refused-is t))
 
-pub demand1 : (k : Keeper) (e : Event) → Demand1 k e
-demand1 k e =
-    record {
-      given = rw (number-is k e) (chosen k e .given);
-      lowest = λ n p. rw (number-is k e) (chosen k e .lowest n (positive n p) p);
-      refused = λ h.
-          let g : 0 < numberOf (replyTo k e) = rw (number-is k e) at h in
-          rw (refused-is k e (ne-eqb (numberOf (replyTo k e)) 0 (λ z. omega arith))) (refl, chosen k e .empty g);
-    }
-  where
-    positive : (n : ℕ) → Applies k e n → 1 ≤ n
-    positive zero p = absurd (untested k e refl p)
-    positive (suc n) p = omega arith
+  positive : (n : ℕ) → Applies k e n → 1 ≤ n
+  positive zero p = absurd (untested k e refl p)
+  positive (suc n) p = omega arith
+
+  refusal : 0 < number k e → ((outcomeOf k e) .keeper ≡ k) × (dataOf ((outcomeOf k e) .answer) ≡ 0) × ((outcomeOf k e) .shown ≡ shownBy k)
+  refusal h =
+      let g : 0 < numberOf (replyOf k e) = rw number-is at h in
+      rw (refused-is (ne-eqb (numberOf (replyOf k e)) 0 (λ z. omega arith))) (refl, chosen k e .empty g, refl)
+
+  pub demand1 : Demand1 k e
+  demand1 =
+      record {
+        given = rw number-is (chosen k e .given);
+        lowest = λ n p. rw number-is (chosen k e .lowest n (positive n p) p);
+        refused = refusal;
+        imageOff = image-off k;
+        imageShort = image-short k;
+        imageDone = image-done k;
+        imageKept = image-kept k;
+      }

@@ -1,68 +1,91 @@
--- One accepted event moves a fan as the rules say. Assumes nothing.
+-- One accepted event: the fans of the engine move as the rules say. Assumes nothing.
 use Prim.Native.Nat.{ℕ, suc, _-_, min}
 use mathlib.Core.Path.{_≡_, refl, sym, ap, _∙_}
 use mathlib.Core.Bool.{Bool, true, false, cond, not, _&&_, _||_, true≢false}
 use mathlib.Core.List.{_∷_}
 use native.Mathlib.Omega.{arith}
-use lib.Dec.{eqb}
+use lib.Dec.{ltb, eqb}
 use borrow.Author.Tests.{eqb-true}
-use Rattle.integer.proofs.BoolLaws.{by-cases}
+use Rattle.integer.proofs.BoolLaws.{by-cases, both}
 use Rattle.part.specs.declared.ChannelId.{ChannelId}
 use Rattle.part.specs.declared.ChannelId.the-variants.{Local, Remote1, Remote2}
 use Rattle.part.specs.declared.FanId.{FanId}
+use Rattle.part.specs.declared.FanId.the-variants.{One, Two}
+use Rattle.event.specs.Kinds.{isKind, placeOf, kindOf}
 use Rattle.event.specs.declared.Event.{Event}
-use Rattle.input.specs.Inputs.{measures, restarts}
-use Rattle.input.specs.declared.Input.{Input}
-use Rattle.demand.specs.Demand.{tminOf, rangeOf, codeOf, demandOf}
+use Rattle.event.specs.declared.Kind.the-variants as kind
+use Rattle.rules.specs.Registers.{speeds, controlAt, statusAt, tachLimitAt}
+use Rattle.rules.specs.Fields.{speedCode}
+use Rattle.rules.specs.Events.{byteGiven, measures, periods, reads, restarts}
+use Rattle.rules.specs.Stored.{Taken, storedAt, pointer, pinLow}
+use Rattle.rules.specs.Replies as replies
+use Rattle.rules.specs.Temperatures.{temperature, thermAsserted}
+use Rattle.rules.specs.Targets.{tminOf, rangeOf, flag, demand, target, overridden}
+use Rattle.rules.specs.Duties.{tachOn, Spin, left, prior, judgedIn, failedIn, spinUpStarts, givenAfter, sinceAfter, dutyAfter, spinAt, spinAfter, spin, judged, failed, failures, atAlarm, alarmBit, faultBit}
+use Rattle.demand.specs.Demand.{demandOf}
 use Rattle.demand.proofs.SignedLaws.{faithful-demand}
-use Rattle.drive.specs.Drive.{spinUpStarts, leftOf, keptOf, drivenOf}
+use Rattle.drive.specs.Drive.{dutyOf, startsOf, leftOf, driveAt, drivenOf}
 use Rattle.drive.specs.Tach.{runOf}
 use Rattle.drive.specs.declared.Drive.{Drive}
 use Rattle.drive.specs.declared.Setting.{Setting}
-use Rattle.drive.specs.declared.FanInput.{FanInput}
-use Rattle.judge.specs.Plain.{measured}
-use Rattle.stored.specs.Stored.{controlAt, tachLimitAt, tachEnabled}
-use Rattle.fan.specs.Fans.{fanInputOf, settingOf, fanTarget, fanRun, priorFan, fanAfter, fanIn}
+use Rattle.input.specs.Inputs.{measured, inputOf, bitAfter}
+use Rattle.input.proofs.PlainLaws.{count-is, period-is}
+use Rattle.stored.specs.Stored.{fanRegistersOf}
+use Rattle.fan.specs.Fans.{fanTarget, settingOf, priorFan, judgesFan, failsFan, fanInputOf, fanRun, fanUnder, fanAfter}
 use Rattle.fan.specs.declared.Fan.{Fan}
-use Rattle.history.specs.Events.{Taken, act, starts, storedAt, pointer, pinLow}
-use Rattle.history.specs.Temperatures.{temperature, flag}
-use Rattle.history.specs.Duties.{thermAsserted, demand, target, overridden, setting, Spin, left, spinAt, givenAfter, sinceAfter, spinAfter, prior, tachOn, judgesWith, failsWith, spin, judged, failed, failures, atAlarm, alarmBit, faultBit}
-use Rattle.history.proofs.State.{channelRegistersOf, fanRegistersOf, registersOf, channelOf, channelsOf, driveOf, fanOf}
-use Rattle.history.proofs.TakenLaws.{Held}
+use Rattle.history.proofs.State.{channelRegistersBy, fanRegistersBy, registersBy, contextBy, channelBy, channelsBy, settingBy, driveBy, fanBy}
+use Rattle.history.proofs.AcceptedLaws.{counted-is, restart-is}
+use Rattle.history.proofs.HeldLaws.{Held}
 
 -- ---- what is asked of a fan
 
-demand-is : (f : FanId) (c : ChannelId) (d : Taken) → Held d
-    → demandOf (flag c d) (codeOf f (storedAt 0x22 d)) (tminOf (storedAt (controlAt c) d)) (rangeOf (storedAt (controlAt c) d)) (measured (temperature c d)) ≡ demand f c d
-unfolding demand
-demand-is f c d held = faithful-demand (temperature c d) (measured (temperature c d)) (held c) _ _ _ _
+module _ (f : FanId) (d : Taken) where
+  demand-is : Held d → (c : ChannelId)
+      → demandOf (flag c d) (speedCode f (storedAt speeds d)) (tminOf (storedAt (controlAt c) d)) (rangeOf (storedAt (controlAt c) d)) (measured (temperature c d)) ≡ demand f c d
+  unfolding demand
+  demand-is held c = faithful-demand (temperature c d) (measured (temperature c d)) (held c) _ _ _ _
 
-pub setting-is : (f : FanId) (d : Taken) → Held d → settingOf f (pinLow d) (registersOf d) (fanRegistersOf f d) (channelsOf d) ≡ setting f d
-unfolding settingOf fanTarget setting target overridden thermAsserted registersOf fanRegistersOf channelRegistersOf channelsOf channelOf
-setting-is f d held = rw (demand-is f Local d held, demand-is f Remote1 d held, demand-is f Remote2 d held)
+  own-registers : fanRegistersOf (registersBy d) f ≡ fanRegistersBy f d
+  unfolding registersBy
+  own-registers = own f
+    where
+      own : (f : FanId) → fanRegistersOf (registersBy d) f ≡ fanRegistersBy f d
+      own One = refl
+      own Two = refl
+
+  pub setting-is : Held d → settingOf f (pinLow d) (registersBy d) (channelsBy d) ≡ settingBy f d
+  unfolding settingOf fanTarget settingBy target overridden thermAsserted registersBy channelRegistersBy fanRegistersBy channelsBy channelBy
+  setting-is held = rw (own-registers, demand-is held Local, demand-is held Remote1, demand-is held Remote2)
 
 -- ---- spin-up: counting what was given and the clocks since is counting down what is left
 
-at-drive : (d given since : ℕ) → driveOf (spinAt d given since) ≡ keptOf d (given - since)
-at-drive d given since = by-cases (eqb d 0) (λ e. simp (eqb-true d 0 e)) (λ e. simp e)
+at-drive : (duty given since : ℕ) → driveBy (spinAt duty given since) ≡ driveAt duty (given - since)
+at-drive duty given since = by-cases (eqb duty 0) (λ z. simp (eqb-true duty 0 z)) (λ z. simp z)
 
-module _ (s : Setting) (b : FanInput) (w : Spin) where
-  left-after : givenAfter s b w - sinceAfter s b w ≡ leftOf s b (driveOf w)
-  unfolding leftOf
+module _ (f : FanId) (e : Event) (d : Taken) (w : Spin) where
+  left-after : givenAfter f e d w - sinceAfter f e d w ≡ leftOf (settingBy f (e ∷ d)) (fanInputOf f (failedIn f e d w) (inputOf e)) (driveBy w)
+  unfolding leftOf startsOf settingBy
   left-after =
-      by-cases (spinUpStarts s b (w .duty))
-      (λ e. simp e (omega arith))
-      (λ e. by-cases (b .clock) (λ c. simp (e, c) (omega arith)) (λ c. simp (e, c)))
+      by-cases (spinUpStarts f e d w)
+      (λ s. simp s (omega arith))
+      (λ s. by-cases (isKind kind.Clock e) (λ c. simp (s, c) (omega arith)) (λ c. simp (s, c)))
 
-  pub spin-driven : driveOf (spinAfter s b w) ≡ drivenOf s b (driveOf w)
+  duty-is : (spinning : Bool) (was : ℕ) → dutyAfter f e d spinning was ≡ dutyOf (settingBy f (e ∷ d)) (periods f e) spinning was
+  unfolding dutyAfter dutyOf settingBy
+  duty-is spinning was = refl
+
+  pub spin-driven : driveBy (spinAfter f e d w) ≡ drivenOf (settingBy f (e ∷ d)) (fanInputOf f (failedIn f e d w) (inputOf e)) (driveBy w)
   unfolding spinAfter drivenOf
-  spin-driven = rw (← left-after) (at-drive _ _ _)
+  spin-driven = rw (← left-after, period-is f e, ← duty-is) (at-drive _ _ _)
 
 -- ---- the run of failures
 
--- a start afresh is no measurement
-restart-measures : (f : FanId) (a : Input) → restarts a ≡ true → measures f a ≡ false
-restart-measures f a p = by-cases (eqb (a .kind) 0) (λ z. rw (eqb-true (a .kind) 0 z)) (λ z. by-cases (eqb (a .kind) 1) (λ o. rw (eqb-true (a .kind) 1 o)) (λ o. absurd (true≢false (sym (rw (z, o) at p)))))
+-- a restart is no measurement
+restart-measures : (f : FanId) (e : Event) → restarts e ≡ true → measures f e ≡ false
+restart-measures f e p =
+    by-cases (isKind kind.Power e)
+    (λ z. rw (eqb-true (placeOf (kindOf e)) 0 z))
+    (λ z. rw (eqb-true (placeOf (kindOf e)) 1 (both (isKind kind.Write e) _ (both _ _ (rw z at p) .0) .0)))
 
 -- a run held at 5 is the count of failures held at 5
 run-law : (tach start judged failed : Bool) (n : ℕ) → (start ≡ true → (judged ≡ false) × (failed ≡ false))
@@ -76,37 +99,50 @@ run-law true false false false n calm = refl
 
 -- ---- a fan
 
-same-fan : {d d′ : Drive} {r r′ : ℕ} {x a b : Bool} → d ≡ d′ → r ≡ r′
-    → _≡_ {A = Fan} (record { drive = d; run = r; alarmed = x; alarm = a; fault = b }) (record { drive = d′; run = r′; alarmed = x; alarm = a; fault = b })
-same-fan p q = rw (p, q)
-
-module _ (e : Event) (d : Taken) (held : Held (e ∷ d)) (f : FanId) where
+module _ (e : Event) (d : Taken) (fine : replies.outOfRange e ≡ false) (held : Held (e ∷ d)) (f : FanId) where
   abbrev w : Spin
   w = prior e (spin f d)
 
-  prior-is : priorFan (act e) (fanOf f d) ≡ record {
-    drive = driveOf w;
-    run = cond (starts e) 0 (min 5 (failures f d));
-    alarmed = cond (starts e) false (atAlarm f d);
-    alarm = cond (starts e) false (alarmBit f d);
-    fault = cond (starts e) false (faultBit f d);
-  }
-  unfolding fanOf
-  prior-is = by-cases (starts e) (λ p. rw p) (λ p. rw p)
+  judged-is : judgesFan f (contextBy e d) (driveBy w) ≡ judgedIn f e d w
+  unfolding registersBy
+  judged-is = rw (count-is f e)
 
-  run-is : fanRun (tachOn f (e ∷ d)) (judgesWith f e d w) (failsWith f e d w) (cond (starts e) 0 (min 5 (failures f d))) ≡ min 5 (failures f (e ∷ d))
+  failed-is : failsFan f (contextBy e d) (driveBy w) ≡ failedIn f e d w
+  unfolding fanRegistersBy
+  failed-is =
+      rw (judged-is, own-registers f (e ∷ d))
+      (by-cases (measures f e)
+      (λ y. rw (counted-is e fine (both (isKind kind.Tach e) _ y .0)))
+      (λ y. rw y))
+
+  prior-is : priorFan (inputOf e) (fanBy f d) ≡ record {
+    drive = driveBy w;
+    run = cond (restarts e) 0 (min 5 (failures f d));
+    alarmed = cond (restarts e) false (atAlarm f d);
+    alarm = cond (restarts e) false (alarmBit f d);
+    fault = cond (restarts e) false (faultBit f d);
+  }
+  unfolding fanBy
+  prior-is = rw (restart-is e fine) (by-cases (restarts e) (λ p. rw p) (λ p. rw p))
+
+  run-is : fanRun (tachOn f (e ∷ d)) (judgedIn f e d w) (failedIn f e d w) (cond (restarts e) 0 (min 5 (failures f d))) ≡ min 5 (failures f (e ∷ d))
   unfolding failures failed judged
   run-is =
-      run-law (tachOn f (e ∷ d)) (starts e) (judgesWith f e d w) (failsWith f e d w) (failures f d)
-      (λ p. (rw (restart-measures f (act e) p), rw (restart-measures f (act e) p)))
+      run-law (tachOn f (e ∷ d)) (restarts e) (judgedIn f e d w) (failedIn f e d w) (failures f d)
+      (λ p. (rw (restart-measures f e p), rw (restart-measures f e p)))
 
-  drive-is : drivenOf (setting f (e ∷ d)) (fanInputOf f (failsWith f e d w) (act e)) (driveOf w) ≡ driveOf (spin f (e ∷ d))
+  drive-is : drivenOf (settingBy f (e ∷ d)) (fanInputOf f (failedIn f e d w) (inputOf e)) (driveBy w) ≡ driveBy (spin f (e ∷ d))
   unfolding spin
-  drive-is = sym (spin-driven (setting f (e ∷ d)) (fanInputOf f (failsWith f e d w) (act e)) w)
+  drive-is = sym (spin-driven f e d w)
 
-  pub fan-is : fanIn f (pinLow (e ∷ d)) (registersOf (e ∷ d)) (fanRegistersOf f (e ∷ d)) (channelsOf (e ∷ d)) (pointer d) (act e) (fanOf f d) ≡ fanOf f (e ∷ d)
-  unfolding fanIn fanAfter fanOf registersOf fanRegistersOf atAlarm alarmBit faultBit failed
-  fan-is =
-      ap (λ (s : Setting). fanAfter f s (tachOn f (e ∷ d)) (storedAt (tachLimitAt f) (e ∷ d)) (pointer d) (act e) (priorFan (act e) (fanOf f d))) (setting-is f (e ∷ d) held)
-      ∙ ap (λ (p : Fan). fanAfter f (setting f (e ∷ d)) (tachOn f (e ∷ d)) (storedAt (tachLimitAt f) (e ∷ d)) (pointer d) (act e) p) prior-is
-      ∙ same-fan drive-is run-is
+  bit-is : (sets was : Bool) → bitAfter sets (reads (statusAt f) (pointer d) e) (cond (restarts e) false was)
+      ≡ cond sets true (cond (restarts e || reads (statusAt f) (pointer d) e) false was)
+  bit-is sets was = by-cases (restarts e) (λ p. rw p (by-cases (reads (statusAt f) (pointer d) e) (λ q. rw q) (λ q. rw q))) (λ p. rw p)
+
+  under-is : fanUnder f (settingBy f (e ∷ d)) (contextBy e d) (priorFan (inputOf e) (fanBy f d)) ≡ fanBy f (e ∷ d)
+  unfolding fanUnder fanBy registersBy atAlarm alarmBit faultBit failed settingBy
+  under-is = rw (prior-is, failed-is, judged-is, drive-is, run-is, bit-is, bit-is)
+
+  pub fan-is : fanAfter f (pinLow (e ∷ d)) (contextBy e d) (channelsBy (e ∷ d)) (fanBy f d) ≡ fanBy f (e ∷ d)
+  unfolding fanAfter
+  fan-is = rw (setting-is f (e ∷ d) held) under-is

@@ -1,94 +1,109 @@
--- The registers give every reading back. Assumes nothing.
-use Prim.Native.Nat.{ℕ, _+_, _-_, _*_, _/_, _%_, _<_, _≤_}
-use mathlib.Core.Path.{_≡_, refl, sym, ap, _∙_}
-use mathlib.Core.Bool.{Bool, true, false, cond, not, _&&_, true≢false}
+-- Readings come back from the registers without loss. Assumes nothing.
+use Prim.Native.Nat.{ℕ, _+_, _*_, _/_, _%_, _<_}
+use mathlib.Core.Path.{_≡_, refl, sym, ap, _∙_, subst}
+use mathlib.Core.Bool.{Bool, true, false, cond, _&&_}
 use mathlib.Core.List.{[], _∷_}
 use native.Mathlib.Omega.{arith}
-use lib.Dec.{ltb, leb, eqb}
-use lib.IntN.{ℤ, pos, negsuc}
-use borrow.Author.Tests.{eqb-true, eqb-false, ltb-true, leb-true, not-false}
+use lib.Dec.{eqb}
+use lib.IntN.{ℤ, pos, negsuc, _+ℤ_, _*ℤ_}
+use borrow.Author.Tests.{eqb-true, eqb-false}
 use Rattle.integer.proofs.BoolLaws.{by-cases, both}
 use Rattle.integer.specs.Range.{eighthsOf}
-use Rattle.integer.specs.declared.Ranged.{Ranged}
-use Rattle.integer.specs.declared.Ranged.the-variants.{In, Out}
 use Rattle.part.specs.declared.ChannelId.{ChannelId}
 use Rattle.part.specs.declared.ChannelId.the-variants.{Local, Remote1, Remote2}
-use Rattle.event.specs.Kinds.{isKind}
+use Rattle.event.specs.Kinds.{isKind, placeOf, kindOf}
 use Rattle.event.specs.declared.Event.{Event}
 use Rattle.event.specs.declared.Kind.the-variants as kind
-use Rattle.reading.specs.Reading.{byteOf, remainderOf, extendedOf, remainderIn}
-use Rattle.reading.specs.Faithful.{Faithful, chosen}
+use Rattle.rules.specs.Registers.{extended, valueAt, existsAt}
+use Rattle.rules.specs.Events.{who, val, isNumber, samples, restarts}
+use Rattle.rules.specs.Stored.{Taken}
+use Rattle.rules.specs.Replies.{isOdd, replyTo, accepts, History, taken, accepted}
+use Rattle.rules.specs.Replies as replies
+use Rattle.rules.specs.Temperatures.{temperature, wholeByte, remainder, degrees}
+use Rattle.rules.specs.Shows.{remaindersByte, byteAt, value}
+use Rattle.reading.specs.Reading.{byteOf, remainderOf, remainderIn}
+use Rattle.reading.specs.Faithful.{Faithful}
 use Rattle.reading.proofs.FaithfulLaws.{faithful}
-use Rattle.reading.proofs.Laws.{lossless}
-use Rattle.register.specs.Table.{existsAt}
-use Rattle.judge.specs.Plain.{insideOr, measured, plainOf}
-use Rattle.judge.specs.Replies.{fits, between, rowOf, outOfRange, oddLocal, replyOf, accepts}
-use Rattle.judge.specs.declared.Plain.{Plain}
-use Rattle.history.specs.Events.{History, Taken, act, starts, samples, standing, taken}
-use Rattle.history.specs.Temperatures.{temperature}
-use Rattle.history.specs.Shows.{value, byteAt}
-use Rattle.history.specs.Readback.{valueAddress, Readback}
-use Rattle.history.proofs.JudgeLaws.{passed}
-use Rattle.history.proofs.TakenLaws.{Took, none, more, took, Held, held}
+use Rattle.input.specs.Inputs.{measured}
+use Rattle.history.specs.Readback.{ReadsBack, Readback}
+use Rattle.rules.proofs.TakenLaws.{Took, none, more, took, went, accepted-is}
+use Rattle.history.proofs.HeldLaws.{Held, held}
 
--- ---- every reading, as it is held
+-- ---- the local reading is even
 
-abbrev reading : ChannelId → Taken → ℕ
-reading c d = measured (temperature c d)
-
--- an accepted sample of the local channel is even: who, a byte, is 0
-local-even : (p : Plain) → (eqb (p .kind) 4 && eqb (p .who % 256) 0) ≡ true → outOfRange p ≡ false → oddLocal p ≡ false → p .reading % 2 ≡ 0
-unfolding rowOf
-local-even p s r o =
-    let k : p .kind ≡ 4 = eqb-true (p .kind) 4 (both (eqb (p .kind) 4) _ s .0) in
-    let f : fits (rowOf 4) p ≡ true = rw k at (not-false (fits (rowOf (p .kind)) p) r) in
-    let w : p .who ≤ 2 = leb-true (p .who) 2 (both (leb 0 (p .who)) (leb (p .who) 2) (both (between 0 2 (p .who)) _ f .0) .1) in
-    let z : p .who ≡ 0 = omega (arith, eqb-true (p .who % 256) 0 (both (eqb (p .kind) 4) _ s .1)) in
-    omega (arith, eqb-false (p .reading % 2) 1 (rw (k, z) at o))
-
-even-after : (e : Event) (d : Taken) → accepts (replyOf (standing d) e) ≡ true → reading Local d % 2 ≡ 0 → reading Local (e ∷ d) % 2 ≡ 0
-unfolding temperature eighthsOf
-even-after e d go was =
-    by-cases (starts e)
-    (λ s. rw s refl)
+even-after : (e : Event) (d : Taken) → replies.oddLocal e ≡ false → isOdd (temperature Local d) ≡ false → isOdd (temperature Local (e ∷ d)) ≡ false
+unfolding temperature
+even-after e d fine was =
+    by-cases (restarts e)
+    (λ s. rw s)
     (λ s. by-cases (samples Local e)
-    (λ y. let p = passed (standing d) (plainOf e) go in rw (s, y) (local-even (plainOf e) y (p .range) (p .even)))
+    (λ y. let p = both (isKind kind.Sample e) _ y in rw (s, y) (rw (p .0, p .1) at fine))
     (λ y. rw (s, y) was))
 
-even : {d : Taken} → Took d → reading Local d % 2 ≡ 0
-even none = (unfold temperature eighthsOf in refl)
-even (more {e = e} {d = d} go t) = even-after e d go (even t)
+even : {d : Taken} → Took d → isOdd (temperature Local d) ≡ false
+even none = (unfold temperature in refl)
+even (more {e = e} {d = d} go t) = even-after e d (went e d go .even) (even t)
 
 -- ---- back from the registers
 
-remainder-back : (c : ChannelId) (h : Taken) → reading Local h % 2 ≡ 0 → remainderIn c (value 0x06 h) ≡ remainderOf (reading c h)
-unfolding value byteAt existsAt
-remainder-back c h even =
-    let l = remainderOf (reading Local h) in
-    let r1 = remainderOf (reading Remote1 h) in
-    let r2 = remainderOf (reading Remote2 h) in
-    let q : 2 * (l / 2) ≡ l = omega arith in
-    ap (λ (x : ℕ). remainderIn c (extendedOf x r1 r2)) (sym q)
-    ∙ lossless .remainders c (l / 2) r1 r2 (omega arith) (omega arith) (omega arith)
-    ∙ own c q
-  where
-    own : (c : ChannelId) → 2 * (remainderOf (reading Local h) / 2) ≡ remainderOf (reading Local h)
-        → chosen c (2 * (remainderOf (reading Local h) / 2)) (remainderOf (reading Remote1 h)) (remainderOf (reading Remote2 h)) ≡ remainderOf (reading c h)
-    own Local q = q
-    own Remote1 q = refl
-    own Remote2 q = refl
+rest-small : (t : ℤ) → remainder t < 8
+rest-small (pos n) = omega arith
+rest-small (negsuc n) = omega arith
 
-byte-back : (c : ChannelId) (h : Taken) → value (valueAddress c) h ≡ byteOf (reading c h)
-unfolding value byteAt existsAt
-byte-back Local h = refl
-byte-back Remote1 h = refl
-byte-back Remote2 h = refl
+rest-even : (t : ℤ) → isOdd t ≡ false → 2 * (remainder t / 2) ≡ remainder t
+rest-even (pos n) y = omega (arith, eqb-false (n % 2) 1 y)
+rest-even (negsuc n) y = omega (arith, eqb-false (n % 2) 0 y)
+
+abbrev own : ChannelId → (local remote1 remote2 : ℤ) → ℤ
+own Local l a b = l
+own Remote1 l a b = a
+own Remote2 l a b = b
+
+apart : (c : ChannelId) (local remote1 remote2 : ℤ) → isOdd local ≡ false
+    → remainderIn c (remaindersByte local remote1 remote2) ≡ remainder (own c local remote1 remote2)
+apart Local l a b y = omega (arith, rest-small l, rest-small a, rest-small b, rest-even l y)
+apart Remote1 l a b y = omega (arith, rest-small l, rest-small a, rest-small b)
+apart Remote2 l a b y = omega (arith, rest-small l, rest-small a, rest-small b)
+
+module _ {d : Taken} (t : Took d) (c : ChannelId) where
+  stands : Faithful (temperature c d) (measured (temperature c d))
+  stands = faithful (temperature c d) (measured (temperature c d)) (held t c)
+
+  rest-back : remainderIn c (value extended d) ≡ remainder (temperature c d)
+  unfolding value byteAt existsAt
+  rest-back = apart c (temperature Local d) (temperature Remote1 d) (temperature Remote2 d) (even t) ∙ ap remainder (mine c)
+    where
+      mine : (c : ChannelId) → own c (temperature Local d) (temperature Remote1 d) (temperature Remote2 d) ≡ temperature c d
+      mine Local = refl
+      mine Remote1 = refl
+      mine Remote2 = refl
+
+  whole-back : value (valueAt c) d ≡ wholeByte (temperature c d)
+  unfolding value byteAt existsAt
+  whole-back = there c
+    where
+      there : (c : ChannelId) → value (valueAt c) d ≡ wholeByte (temperature c d)
+      there Local = refl
+      there Remote1 = refl
+      there Remote2 = refl
+
+  back : temperature c d ≡ (pos 8 *ℤ degrees (value (valueAt c) d)) +ℤ pos (remainderIn c (value extended d))
+  back = rw (whole-back, rest-back, ← stands .whole, ← stands .rest) (stands .split)
+
+pub reads-back : (c : ChannelId) (h : History) → ReadsBack c (temperature c (taken h)) h
+reads-back c h = record { small = rw (rest-back (took h) c) (rest-small (temperature c (taken h))); back = back (took h) c }
+
+-- an accepted sample is the reading
+restart-sample : (c : ChannelId) (e : Event) → samples c e ≡ true → restarts e ≡ false
+restart-sample c e y = rw (eqb-true (placeOf (kindOf e)) 4 (both (isKind kind.Sample e) _ y .0))
+
+read-sample : (c : ChannelId) (e : Event) (h : History) → samples c e ≡ true → accepted e h ≡ true → temperature c (taken (e ∷ h)) ≡ val e
+unfolding temperature
+read-sample c e h y go = rw (accepted-is e h go, restart-sample c e y, y)
 
 pub readback : (h : History) → Readback h
 readback h =
-    let t = took h in
-    let f : (c : ChannelId) → Faithful (temperature c (taken h)) (reading c (taken h)) = λ c. faithful (temperature c (taken h)) (reading c (taken h)) (held t c) in
     record {
-      small = λ c. rw (remainder-back c (taken h) (even t)) (f c .small);
-      back = λ c. rw (byte-back c (taken h), remainder-back c (taken h) (even t)) (f c .split);
+      reading = λ c. reads-back c h;
+      sampled = λ c e y go. subst (λ (t : ℤ). ReadsBack c t (e ∷ h)) (read-sample c e h y go) (reads-back c (e ∷ h));
     }

@@ -1,35 +1,40 @@
--- One accepted event moves port, registers and channels as the rules say. Assumes nothing.
-use Prim.Native.Nat.{ℕ, _-_, _%_, _<_}
+-- One accepted event: port, registers and channels of the engine move as the rules say. Assumes nothing.
+use Prim.Native.Nat.{ℕ, _-_, _<_, _%_}
 use mathlib.Core.Path.{_≡_, refl, sym, ap, _∙_}
-use mathlib.Core.Bool.{Bool, true, false, cond, not, _&&_, _||_, true≢false}
+use mathlib.Core.Bool.{Bool, true, false, cond, not, _&&_, _||_}
 use mathlib.Core.List.{[], _∷_}
 use native.Mathlib.Omega.{arith}
 use lib.Bits.{bitAnd, and-le-r, or-lt}
+use lib.Dec.{eqb}
 use lib.IntN.{ℤ, pos}
 use Rattle.integer.proofs.BoolLaws.{by-cases, either, both}
 use Rattle.integer.specs.Bits.{mergedOf}
 use Rattle.integer.specs.Range.{eighthsOf}
 use Rattle.part.specs.declared.ChannelId.{ChannelId}
 use Rattle.part.specs.declared.ChannelId.the-variants.{Local, Remote1, Remote2}
+use Rattle.part.specs.declared.FanId.{FanId}
+use Rattle.part.specs.declared.FanId.the-variants.{One, Two}
 use Rattle.event.specs.Kinds.{isKind}
 use Rattle.event.specs.declared.Event.{Event}
 use Rattle.event.specs.declared.Kind.the-variants as kind
-use Rattle.register.specs.Table.{maskAt}
-use Rattle.register.proofs.Laws.{mask-small, reset-small}
+use Rattle.rules.specs.Registers.{config2, statusAt, offsetAt, highLimitAt, lowLimitAt, thermLimitAt, controlAt, speedAt, tachLimitAt, characteristicsAt, maskAt, resetAt}
+use Rattle.rules.specs.Events.{who, arg, val, isNumber, natural, registerGiven, byteGiven, samples, measures, reads, writes, restarts}
+use Rattle.rules.specs.Stored.{Taken, powered, ownAddress, counts, storedAt, pointer, pinLow, errorGiven, diodeError, pulledBit}
+use Rattle.rules.specs.Replies as replies
+use Rattle.rules.specs.Temperatures.{temperature, limit, latch, channelOn, limitBitsIn, thermBitIn, clears, highBit, lowBit, thermBit}
+use Rattle.rules.specs.Targets.{tminOf, flag}
+use Rattle.rules.proofs.StoredLaws.{count-tach}
 use Rattle.reading.specs.Faithful.{Faithful}
 use Rattle.reading.proofs.FaithfulLaws.{faithful}
-use Rattle.demand.specs.Demand.{tminOf}
-use Rattle.judge.specs.Plain.{measured, plainOf}
-use Rattle.judge.specs.Replies.{replyOf, accepts}
-use Rattle.stored.specs.Stored.{highAt, lowAt, thermAt, controlAt, channelEnabled, storedAfter, channelRegistersAfter, fanRegistersAfter, registersAfter}
-use Rattle.input.specs.Inputs.{bitAfter}
-use Rattle.channel.specs.Channels.{limitBitsIn, readingAfter, latchAfter, flagAfter, highBitAfter, lowBitAfter, thermBitAfter, channelAfter, channelsAfter}
+use Rattle.input.specs.Inputs.{plainOf, measured, inputOf, bitAfter}
+use Rattle.input.proofs.PlainLaws.{plain-is, sample-is}
+use Rattle.stored.specs.Stored.{storedAfter, channelRegistersAfter, fanRegistersAfter, registersAfter, channelRegistersOf}
+use Rattle.channel.specs.Channels.{readingAfter, latchAfter, flagAfter, clearsBit, highBitAfter, lowBitAfter, thermBitAfter, errorIn, errorAfter, channelAfter, channelsAfter}
 use Rattle.channel.specs.declared.Channel.{Channel}
 use Rattle.chip.specs.Chips.{portAfter}
-use Rattle.history.specs.Events.{Taken, act, starts, writes, counts, samples, eighths, standing, powered, address, storedAt, pointer, pinLow, diodeError1, diodeError2, pulled}
-use Rattle.history.specs.Temperatures.{temperature, latch, flag, clears, highBit, lowBit, thermBit}
-use Rattle.history.proofs.State.{portOf, channelRegistersOf, fanRegistersOf, registersOf, channelOf, channelsOf}
-use Rattle.history.proofs.JudgeLaws.{passed, sample-held}
+use Rattle.chip.specs.declared.Port.{Port}
+use Rattle.history.proofs.State.{portBy, channelRegistersBy, fanRegistersBy, registersBy, contextBy, channelBy, channelsBy}
+use Rattle.history.proofs.AcceptedLaws.{own-is, register-is, written-is, counted-is, write-is, restart-is, count-at-is, sample-held}
 
 -- ---- choices
 
@@ -37,9 +42,9 @@ pub where-on : {A : Type 0} (t : Bool) (w : A) {x y : A} → (t ≡ true → x �
 where-on true w q = q refl
 where-on false w q = refl
 
-marked-on : (t on clears was : Bool) {x y : Bool} → (t ≡ true → x ≡ y) → bitAfter (t && (on && x)) clears was ≡ bitAfter (t && (on && y)) clears was
-marked-on true on clears was q = rw (q refl)
-marked-on false on clears was q = refl
+bit-on : (t on clears was : Bool) {x y : Bool} → (t ≡ true → x ≡ y) → bitAfter (t && (on && x)) clears was ≡ bitAfter (t && (on && y)) clears was
+bit-on true on clears was q = rw (q refl)
+bit-on false on clears was q = refl
 
 over-cond : {A B : Type 0} (f : A → B) (t : Bool) (x y : A) → cond t (f x) (f y) ≡ f (cond t x y)
 over-cond f true x y = refl
@@ -47,82 +52,127 @@ over-cond f false x y = refl
 
 -- ---- bytes
 
-merged-byte : (mask was new : ℕ) → mask < 256 → mergedOf mask was new < 256
-unfolding mergedOf
-merged-byte mask was new h = or-lt 8 (bitAnd was (255 - mask)) (bitAnd new mask) (omega (arith, and-le-r was (255 - mask))) (omega (arith, and-le-r new mask))
+module _ (e : Event) (d : Taken) (fine : replies.outOfRange e ≡ false) where
+  pub stored-is : (a : ℕ) → storedAfter a (inputOf e) (storedAt a d) ≡ storedAt a (e ∷ d)
+  unfolding storedAfter storedAt
+  stored-is a =
+      rw (restart-is e fine, write-is e fine a, count-at-is e fine a)
+      (by-cases (restarts e)
+      (λ r. rw r)
+      (λ r. by-cases (writes a e)
+      (λ w. rw (r, w, written-is e fine (both (isKind kind.Write e) _ w .0)))
+      (λ w. by-cases (counts a e)
+      (λ c. rw (r, w, c, counted-is e fine (count-tach a e c)))
+      (λ c. rw (r, w, c)))))
 
-pub byte : (a : ℕ) (d : Taken) → storedAt a d < 256
-unfolding storedAt
-byte a [] = omega arith
-byte a (e ∷ d) =
-    either (λ x. x < 256) (starts e) (reset-small a)
-    (either (λ x. x < 256) (writes a e) (merged-byte (maskAt a) (storedAt a d) (act e .val) (mask-small a))
-    (either (λ x. x < 256) (counts a e) (omega arith) (byte a d)))
+  channel-registers-is : (c : ChannelId) → channelRegistersAfter c (inputOf e) (channelRegistersBy c d) ≡ channelRegistersBy c (e ∷ d)
+  unfolding channelRegistersAfter channelRegistersBy
+  channel-registers-is c = rw (stored-is (offsetAt c), stored-is (highLimitAt c), stored-is (lowLimitAt c), stored-is (thermLimitAt c), stored-is (controlAt c))
 
--- ---- one event
+  fan-registers-is : (f : FanId) → fanRegistersAfter f (inputOf e) (fanRegistersBy f d) ≡ fanRegistersBy f (e ∷ d)
+  unfolding fanRegistersAfter fanRegistersBy
+  fan-registers-is f = rw (stored-is (speedAt f), stored-is (tachLimitAt f), stored-is (characteristicsAt f))
 
-module _ (e : Event) (d : Taken) where
-  pub port-is : portAfter (act e) (portOf d) ≡ portOf (e ∷ d)
-  unfolding portAfter portOf address pointer pinLow diodeError1 diodeError2 pulled
-  port-is = refl
+  pub registers-is : registersAfter (inputOf e) (registersBy d) ≡ registersBy (e ∷ d)
+  unfolding registersAfter registersBy
+  registers-is =
+      rw (
+        stored-is 0x00,
+        stored-is 0x01,
+        stored-is 0x07,
+        stored-is 0x22,
+        stored-is 0x23,
+        stored-is 0x3F,
+        channel-registers-is Local,
+        channel-registers-is Remote1,
+        channel-registers-is Remote2,
+        fan-registers-is One,
+        fan-registers-is Two,
+      )
 
-  pub registers-is : registersAfter (act e) (registersOf d) ≡ registersOf (e ∷ d)
-  unfolding registersAfter channelRegistersAfter fanRegistersAfter storedAfter registersOf channelRegistersOf fanRegistersOf storedAt
-  registers-is = refl
+  pub port-is : portAfter (inputOf e) (portBy d) ≡ portBy (e ∷ d)
+  unfolding portAfter portBy ownAddress pointer pinLow pulledBit
+  port-is =
+      rw (
+        restart-is e fine,
+        plain-is (val e) 0 (omega arith),
+        where-on (isKind kind.Power e) (ownAddress d) (own-is e fine),
+        where-on (isKind kind.Write e || isKind kind.Point e) (pointer d) (register-is e fine),
+      )
 
-module _ (e : Event) (d : Taken) (go : accepts (replyOf (standing d) e) ≡ true) (c : ChannelId) where
+-- ---- a channel
+
+module _ (e : Event) (d : Taken) (fine : replies.outOfRange e ≡ false) (small : (a : ℕ) → storedAt a (e ∷ d) < 256) (c : ChannelId) where
   -- an accepted sample is held as what it is
-  stands : samples c e ≡ true → Faithful (eighths e) (act e .reading)
-  stands y = faithful (eighths e) (act e .reading) (sample-held (standing d) (eighths e) (plainOf e) refl go (both (isKind kind.Sample e) _ y .0))
+  stands : samples c e ≡ true → Faithful (val e) (measured (val e))
+  stands y = faithful (val e) (measured (val e)) (sample-held e fine (both (isKind kind.Sample e) _ y .0))
 
-  reading-is : readingAfter c (act e) (measured (temperature c d)) ≡ measured (temperature c (e ∷ d))
+  reading-is : readingAfter c (contextBy e d) (measured (temperature c d)) ≡ measured (temperature c (e ∷ d))
   unfolding readingAfter temperature eighthsOf
-  reading-is = ap (cond (starts e) 1024) (over-cond measured (samples c e) (eighths e) (temperature c d)) ∙ over-cond measured (starts e) (pos 0) (cond (samples c e) (eighths e) (temperature c d))
+  reading-is =
+      rw (restart-is e fine, sample-is c e)
+      (ap (cond (restarts e) 1024) (over-cond measured (samples c e) (val e) (temperature c d))
+      ∙ over-cond measured (restarts e) (pos 0) (cond (samples c e) (val e) (temperature c d)))
 
-  latch-is : latchAfter c (storedAt (thermAt c) (e ∷ d)) (act e) (latch c d) ≡ latch c (e ∷ d)
-  unfolding latchAfter latch
-  latch-is = ap (cond (starts e) false) (where-on (samples c e) (latch c d) (λ y. stands y .latch (latch c d) (storedAt (thermAt c) (e ∷ d)) (byte (thermAt c) (e ∷ d))))
-
-  flag-is : flagAfter c (storedAt (controlAt c) (e ∷ d)) (act e) (flag c d) ≡ flag c (e ∷ d)
-  unfolding flagAfter flag
-  flag-is = ap (cond (starts e) false) (where-on (samples c e) (flag c d) (λ y. stands y .flag (flag c d) (tminOf (storedAt (controlAt c) (e ∷ d)))))
-
-  abbrev on : Bool
-  on = channelEnabled c (storedAt 0x01 (e ∷ d))
-
-  high-is : highBitAfter c (storedAt (highAt c) (e ∷ d)) on (pointer d) (act e) (highBit c d) ≡ highBit c (e ∷ d)
-  unfolding highBitAfter highBit
-  high-is = marked-on (samples c e) on (clears c (limitBitsIn c) e d) (highBit c d) (λ y. stands y .high (storedAt (highAt c) (e ∷ d)) (byte (highAt c) (e ∷ d)))
-
-  low-is : lowBitAfter c (storedAt (lowAt c) (e ∷ d)) on (pointer d) (act e) (lowBit c d) ≡ lowBit c (e ∷ d)
-  unfolding lowBitAfter lowBit
-  low-is = marked-on (samples c e) on (clears c (limitBitsIn c) e d) (lowBit c d) (λ y. stands y .low (storedAt (lowAt c) (e ∷ d)) (byte (lowAt c) (e ∷ d)))
-
-  therm-is : thermBitAfter c on (latch c d) (latchAfter c (storedAt (thermAt c) (e ∷ d)) (act e) (latch c d)) (pointer d) (act e) (thermBit c d) ≡ thermBit c (e ∷ d)
-  unfolding thermBitAfter thermBit
-  therm-is = rw latch-is
-
-  pub channel-is : channelAfter c (channelRegistersOf c (e ∷ d)) on (pointer d) (act e) (channelOf c d) ≡ channelOf c (e ∷ d)
-  unfolding channelAfter channelRegistersOf channelOf
-  channel-is = same reading-is latch-is flag-is high-is low-is therm-is
+  own-registers : channelRegistersOf (registersBy (e ∷ d)) c ≡ channelRegistersBy c (e ∷ d)
+  unfolding registersBy
+  own-registers = own c
     where
-      same : {r r′ : ℕ} {l l′ f f′ o o′ u u′ t t′ : Bool} → r ≡ r′ → l ≡ l′ → f ≡ f′ → o ≡ o′ → u ≡ u′ → t ≡ t′
-          → _≡_ {A = Channel} (record { reading = r; latch = l; flag = f; over = o; under = u; hot = t }) (record { reading = r′; latch = l′; flag = f′; over = o′; under = u′; hot = t′ })
-      same p q s v w x = rw (p, q, s, v, w, x)
+      own : (c : ChannelId) → channelRegistersOf (registersBy (e ∷ d)) c ≡ channelRegistersBy c (e ∷ d)
+      own Local = refl
+      own Remote1 = refl
+      own Remote2 = refl
 
-pub channels-is : (e : Event) (d : Taken) → accepts (replyOf (standing d) e) ≡ true → channelsAfter (registersOf (e ∷ d)) (pointer d) (act e) (channelsOf d) ≡ channelsOf (e ∷ d)
-unfolding channelsAfter channelsOf registersOf
-channels-is e d go = rw (channel-is e d go Local, channel-is e d go Remote1, channel-is e d go Remote2)
+  latch-is : latchAfter c (contextBy e d) (latch c d) ≡ latch c (e ∷ d)
+  unfolding latchAfter latch channelRegistersBy
+  latch-is =
+      rw (restart-is e fine, sample-is c e, own-registers)
+      (ap (cond (restarts e) false)
+      (where-on (samples c e) (latch c d) (λ y. stands y .latch (latch c d) (storedAt (thermLimitAt c) (e ∷ d)) (small (thermLimitAt c)))))
 
--- ---- power
+  flag-is : flagAfter c (contextBy e d) (flag c d) ≡ flag c (e ∷ d)
+  unfolding flagAfter flag channelRegistersBy
+  flag-is =
+      rw (restart-is e fine, sample-is c e, own-registers)
+      (ap (cond (restarts e) false)
+      (where-on (samples c e) (flag c d) (λ y. stands y .flag (flag c d) (tminOf (storedAt (controlAt c) (e ∷ d))))))
 
--- after an accepted event there is power
-pub on-after : (e : Event) (d : Taken) → accepts (replyOf (standing d) e) ≡ true → powered (e ∷ d) ≡ true
-unfolding powered standing
-on-after e d go = or-not (powered d) (isKind kind.Power e) (passed (standing d) (plainOf e) go .power)
-  where
-    or-not : (on up : Bool) → (not on && not up) ≡ false → (up || on) ≡ true
-    or-not true true q = refl
-    or-not true false q = refl
-    or-not false true q = refl
-    or-not false false q = absurd (true≢false q)
+  clears-is : (f : FanId) → clearsBit c f (contextBy e d) ≡ clears c f e d
+  unfolding clearsBit registersBy
+  clears-is f = rw (restart-is e fine)
+
+  high-is : highBitAfter c (contextBy e d) (highBit c d) ≡ highBit c (e ∷ d)
+  unfolding highBitAfter highBit channelRegistersBy registersBy
+  high-is =
+      rw (clears-is (limitBitsIn c), sample-is c e, own-registers)
+      (bit-on (samples c e) (channelOn c (e ∷ d)) (clears c (limitBitsIn c) e d) (highBit c d)
+      (λ y. stands y .high (storedAt (highLimitAt c) (e ∷ d)) (small (highLimitAt c))))
+
+  low-is : lowBitAfter c (contextBy e d) (lowBit c d) ≡ lowBit c (e ∷ d)
+  unfolding lowBitAfter lowBit channelRegistersBy registersBy
+  low-is =
+      rw (clears-is (limitBitsIn c), sample-is c e, own-registers)
+      (bit-on (samples c e) (channelOn c (e ∷ d)) (clears c (limitBitsIn c) e d) (lowBit c d)
+      (λ y. stands y .low (storedAt (lowLimitAt c) (e ∷ d)) (small (lowLimitAt c))))
+
+  therm-is : thermBitAfter c (contextBy e d) (latch c d) (latchAfter c (contextBy e d) (latch c d)) (thermBit c d) ≡ thermBit c (e ∷ d)
+  unfolding thermBitAfter thermBit registersBy
+  therm-is = rw (latch-is, clears-is (thermBitIn c), sample-is c e)
+
+  error-is : errorAfter c (inputOf e) (diodeError c d) ≡ diodeError c (e ∷ d)
+  unfolding errorAfter diodeError
+  error-is = ap (λ (b : Bool). cond (isKind kind.Power e) b (diodeError c d)) (given c)
+    where
+      given : (c : ChannelId) → errorIn c (inputOf e) ≡ errorGiven c e
+      given Local = refl
+      given Remote1 = plain-is (arg e) 1 (omega arith)
+      given Remote2 = plain-is (val e) 1 (omega arith)
+
+  pub channel-is : channelAfter c (contextBy e d) (channelBy c d) ≡ channelBy c (e ∷ d)
+  unfolding channelAfter channelBy
+  channel-is = rw (therm-is, reading-is, latch-is, flag-is, high-is, low-is, error-is)
+
+pub channels-is : (e : Event) (d : Taken) → replies.outOfRange e ≡ false → ((a : ℕ) → storedAt a (e ∷ d) < 256)
+    → channelsAfter (contextBy e d) (channelsBy d) ≡ channelsBy (e ∷ d)
+unfolding channelsAfter channelsBy
+channels-is e d fine small = rw (channel-is e d fine small Local, channel-is e d fine small Remote1, channel-is e d fine small Remote2)

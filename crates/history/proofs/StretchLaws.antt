@@ -13,23 +13,25 @@ use Rattle.part.specs.declared.FanId.the-variants.{One, Two}
 use Rattle.event.specs.Kinds.{isKind}
 use Rattle.event.specs.declared.Event.{Event}
 use Rattle.event.specs.declared.Kind.the-variants as kind
-use Rattle.input.specs.Inputs.{periods}
+use Rattle.rules.specs.Registers.{filter}
+use Rattle.rules.specs.Events.{periods, restarts}
+use Rattle.rules.specs.Stored.{Taken, storedAt}
+use Rattle.rules.specs.Replies.{History, taken, accepted}
+use Rattle.rules.specs.Targets.{target, overridden}
+use Rattle.rules.specs.Duties.{enabled, filtered, rate, nearer, Spin, left, prior, failedIn, spin, duty, failed}
 use Rattle.drive.specs.Drive.{drivenOf}
-use Rattle.drive.specs.Ramp.{nearerOf}
 use Rattle.drive.specs.declared.FanInput.{FanInput}
 use Rattle.drive.specs.declared.Drive.{Drive}
 use Rattle.drive.specs.declared.Setting.{Setting}
 use Rattle.drive.proofs.DriveLaws.{spin-up-pos, wanted, full, duty-zero, zero-duty, plain, counted, ramped-step}
 use Rattle.drive.proofs.RampLaws.{nearer-is, nearer-sum}
+use Rattle.input.specs.Inputs.{inputOf}
+use Rattle.input.proofs.PlainLaws.{period-is}
 use Rattle.fan.specs.Fans.{fanInputOf}
-use Rattle.judge.specs.Replies.{accepts}
-use Rattle.history.specs.Events.{History, Taken, act, starts, taken, reply, storedAt}
-use Rattle.history.specs.Duties.{setting, Spin, left, prior, failsWith, spin, failed}
-use Rattle.history.specs.Duties as duties
-use Rattle.history.proofs.State.{driveOf}
-use Rattle.history.specs.Demand3.{enabled, filtered, target, rate, overridden, duty, spinLeft, accepted, periodsIn, clocksIn, Settled, disturbs, Stretch}
+use Rattle.history.specs.Demand3.{spinLeft, periodsIn, clocksIn, Settled, disturbs, Stretch}
+use Rattle.history.proofs.State.{settingBy, driveBy}
 use Rattle.history.proofs.FanLaws.{spin-driven}
-use Rattle.history.proofs.TakenLaws.{refused-is, accepted-is}
+use Rattle.rules.proofs.TakenLaws.{refused-is, accepted-is}
 
 -- ---- what holds of every fan after every list: s is what is asked of it, d the fan
 
@@ -48,17 +50,17 @@ sound-after s b d spun =
       at-target = λ on free aim. plain s on free aim spun b d;
     }
 
-spun : (f : FanId) (d : Taken) → 0 < setting f d .«spin_up»
-unfolding setting
+spun : (f : FanId) (d : Taken) → 0 < settingBy f d .«spin_up»
+unfolding settingBy
 spun f d = spin-up-pos _
 
 -- before the first event every stored byte is 0
-off : (f : FanId) → setting f [] .enabled ≡ false
-unfolding setting storedAt
+off : (f : FanId) → settingBy f [] .enabled ≡ false
+unfolding settingBy storedAt
 off One = refl
 off Two = refl
 
-pub sound : (f : FanId) (d : Taken) → Sound (setting f d) (driveOf (spin f d))
+pub sound : (f : FanId) (d : Taken) → Sound (settingBy f d) (driveBy (spin f d))
 sound f [] =
     record {
       at-full = λ on over. absurd (true≢false (sym on ∙ off f));
@@ -66,7 +68,7 @@ sound f [] =
       at-rest = λ z. (unfold spin in refl);
       at-target = λ on free aim z p. absurd (true≢false (sym on ∙ off f));
     }
-sound f (e ∷ d) = (unfold spin in subst (Sound (setting f (e ∷ d))) (sym (spin-driven _ _ _)) (sound-after _ _ _ (spun f (e ∷ d))))
+sound f (e ∷ d) = (unfold spin in subst (Sound (settingBy f (e ∷ d))) (sym (spin-driven f e d _)) (sound-after _ _ _ (spun f (e ∷ d))))
 
 -- ---- one accepted event that does not disturb
 
@@ -84,45 +86,46 @@ module _ (f : FanId) (e : Event) (d : Taken) (calm : ((isKind kind.Write e || is
   same-prior : prior e (spin f d) ≡ spin f d
   same-prior = simp (no-write, no-power)
 
-  no-failure : failsWith f e d (spin f d) ≡ false
+  no-failure : failedIn f e d (spin f d) ≡ false
   unfolding failed
-  no-failure = subst (λ (w : Spin). failsWith f e d w ≡ false) same-prior (neither (isKind kind.Write e || isKind kind.Power e) (failed f e d) calm .1)
+  no-failure = subst (λ (w : Spin). failedIn f e d w ≡ false) same-prior (neither (isKind kind.Write e || isKind kind.Power e) (failed f e d) calm .1)
 
-  stepped : driveOf (spin f (e ∷ d)) ≡ drivenOf (setting f (e ∷ d)) (fanInputOf f (failsWith f e d (spin f d)) (act e)) (driveOf (spin f d))
+  stepped : driveBy (spin f (e ∷ d)) ≡ drivenOf (settingBy f (e ∷ d)) (fanInputOf f (failedIn f e d (spin f d)) (inputOf e)) (driveBy (spin f d))
   unfolding spin
   stepped =
-      spin-driven (setting f (e ∷ d)) (fanInputOf f (failsWith f e d (prior e (spin f d))) (act e)) (prior e (spin f d))
-      ∙ ap (λ (w : Spin). drivenOf (setting f (e ∷ d)) (fanInputOf f (failsWith f e d w) (act e)) (driveOf w)) same-prior
+      spin-driven f e d (prior e (spin f d))
+      ∙ ap (λ (w : Spin). drivenOf (settingBy f (e ∷ d)) (fanInputOf f (failedIn f e d w) (inputOf e)) (driveBy w)) same-prior
 
   -- a fan that is to be at n before and after it
-  module _ (n : ℕ) (pos : 0 < n) (on : setting f d .enabled ≡ true) (aim : setting f d .target ≡ n)
-      (on′ : setting f (e ∷ d) .enabled ≡ true) (free′ : setting f (e ∷ d) .overridden ≡ false) (aim′ : setting f (e ∷ d) .target ≡ n) where
+  module _ (n : ℕ) (pos : 0 < n) (on : settingBy f d .enabled ≡ true) (aim : settingBy f d .target ≡ n)
+      (on′ : settingBy f (e ∷ d) .enabled ≡ true) (free′ : settingBy f (e ∷ d) .overridden ≡ false) (aim′ : settingBy f (e ∷ d) .target ≡ n) where
     was : 0 < spin f d .duty
     was =
         by-cases (eqb (spin f d .duty) 0)
         (λ z. absurd (true≢false (sym want ∙ sound f d .at-zero (eqb-true _ _ z))))
         (λ z. omega (arith, eqb-false (spin f d .duty) 0 z))
       where
-        want : wanted (setting f d) ≡ true
+        want : wanted (settingBy f d) ≡ true
         want = simp (on, aim, lt-ltb 0 n pos)
 
-    up : 0 < setting f (e ∷ d) .target
+    up : 0 < settingBy f (e ∷ d) .target
     up = rw aim′ pos
 
     spin-after : left (spin f (e ∷ d)) ≡ left (spin f d) - cond (isKind kind.Clock e) 1 0
-    spin-after = ap (λ (x : Drive). x .left) stepped ∙ counted (setting f (e ∷ d)) on′ free′ up (spun f (e ∷ d)) _ _ no-failure was
+    spin-after = ap (λ (x : Drive). x .left) stepped ∙ counted (settingBy f (e ∷ d)) on′ free′ up (spun f (e ∷ d)) _ _ no-failure was
 
-    duty-after : left (spin f d) ≡ 0 → setting f d .filtered ≡ true → spin f (e ∷ d) .duty ≡ cond (periods f (act e)) (nearerOf (setting f d .rate) n (spin f d .duty)) (spin f d .duty)
+    duty-after : left (spin f d) ≡ 0 → settingBy f d .filtered ≡ true
+        → spin f (e ∷ d) .duty ≡ cond (periods f e) (nearer (settingBy f d .rate) n (spin f d .duty)) (spin f d .duty)
     duty-after z p =
         ap (λ (x : Drive). x .duty) stepped
-        ∙ (ramped-step (setting f (e ∷ d)) on′ free′ up (spun f (e ∷ d)) _ _ no-failure was z (filter-by ∙ p)
-        ∙ simp (rate-by, aim′))
+        ∙ (ramped-step (settingBy f (e ∷ d)) on′ free′ up (spun f (e ∷ d)) _ _ no-failure was z (filter-by ∙ p)
+        ∙ simp (period-is f e, rate-by, aim′))
       where
-        filter-by : setting f (e ∷ d) .filtered ≡ setting f d .filtered
-        filter-by = (unfold setting in rw filter-byte)
+        filter-by : settingBy f (e ∷ d) .filtered ≡ settingBy f d .filtered
+        filter-by = (unfold settingBy in rw filter-byte)
 
-        rate-by : setting f (e ∷ d) .rate ≡ setting f d .rate
-        rate-by = (unfold setting in rw filter-byte)
+        rate-by : settingBy f (e ∷ d) .rate ≡ settingBy f d .rate
+        rate-by = (unfold settingBy in rw filter-byte)
 
 -- ---- one event of a stretch, refused or not
 
@@ -139,15 +142,16 @@ module _ (f : FanId) (e : Event) (h : History) (still : disturbs f e h ≡ false
 
   module _ (n : ℕ) (pos : 0 < n) (before : Settled f n h) (after : Settled f n (e ∷ h)) where
     left-after : spinLeft f (e ∷ h) ≡ spinLeft f h - cond (accepted e h && isKind kind.Clock e) 1 0
-    unfolding setting
+    unfolding settingBy
     left-after =
         by-cases (accepted e h)
         (λ r. let q = accepted-is e h r in rw (q, r)
         (spin-after f e (taken h) (calm r) n pos (before .on) (before .aim) (rw q at (after .on)) (rw q at (after .free)) (rw q at (after .aim))))
         (λ r. rw (refused-is e h r, r) (omega arith))
 
-    duty-next : spinLeft f h ≡ 0 → filtered f h ≡ true → duty f (e ∷ h) ≡ cond (accepted e h && periods f (act e)) (nearerOf (rate f h) n (duty f h)) (duty f h)
-    unfolding duties.duty setting
+    duty-next : spinLeft f h ≡ 0 → filtered f (taken h) ≡ true
+        → duty f (taken (e ∷ h)) ≡ cond (accepted e h && periods f e) (nearer (rate (taken h)) n (duty f (taken h))) (duty f (taken h))
+    unfolding duty settingBy
     duty-next z p =
         by-cases (accepted e h)
         (λ r. let q = accepted-is e h r in rw (q, r)
@@ -177,12 +181,12 @@ module _ (f : FanId) (d : ℕ) (pos : 0 < d) where
   byte-kept [] h st = refl
   byte-kept (e ∷ s) h st = byte-same f e (s ++ h) (st .1) ∙ byte-kept s h (st .0)
 
-  pub filter-kept : (s : List Event) (h : History) → Stretch f d s h → filtered f (s ++ h) ≡ filtered f h
-  unfolding setting
+  pub filter-kept : (s : List Event) (h : History) → Stretch f d s h → filtered f (taken (s ++ h)) ≡ filtered f (taken h)
+  unfolding settingBy
   filter-kept s h st = rw (byte-kept s h st)
 
-  rate-kept : (s : List Event) (h : History) → Stretch f d s h → rate f (s ++ h) ≡ rate f h
-  unfolding setting
+  rate-kept : (s : List Event) (h : History) → Stretch f d s h → rate (taken (s ++ h)) ≡ rate (taken h)
+  unfolding settingBy
   rate-kept s h st = rw (byte-kept s h st)
 
   pub spin-falls : (s : List Event) (h : History) → Stretch f d s h → spinLeft f (s ++ h) ≡ spinLeft f h - clocksIn s h
@@ -194,11 +198,12 @@ module _ (f : FanId) (d : ℕ) (pos : 0 < d) where
       (λ c. simp c (omega (arith, spin-falls s h (st .0))))
       (λ c. simp c (omega (arith, spin-falls s h (st .0))))
 
-  pub duty-nears : (s : List Event) (h : History) → Stretch f d s h → spinLeft f h ≡ 0 → filtered f h ≡ true → duty f (s ++ h) ≡ nearerOf (periodsIn f s h * rate f h) d (duty f h)
+  pub duty-nears : (s : List Event) (h : History) → Stretch f d s h → spinLeft f h ≡ 0 → filtered f (taken h) ≡ true
+      → duty f (taken (s ++ h)) ≡ nearer (periodsIn f s h * rate (taken h)) d (duty f (taken h))
   unfolding Stretch periodsIn
   duty-nears [] h st z p = rw nearer-is (omega arith)
   duty-nears (e ∷ s) h st z p =
       duty-next f e (s ++ h) (st .1) d pos (settled-at-end f d s h (st .0)) (st .2) (omega (arith, spin-falls s h (st .0))) (filter-kept s h (st .0) ∙ p)
-      ∙ by-cases (accepted e (s ++ h) && periods f (act e))
-      (λ c. simp (c, rate-kept s h (st .0), duty-nears s h (st .0) z p, nearer-sum, suc-mul, add-comm (rate f h)))
+      ∙ by-cases (accepted e (s ++ h) && periods f e)
+      (λ c. simp (c, rate-kept s h (st .0), duty-nears s h (st .0) z p, nearer-sum, suc-mul, add-comm (rate (taken h))))
       (λ c. simp c (duty-nears s h (st .0) z p))

@@ -1,189 +1,127 @@
 -- The chip that the rules describe shows what the rules say: registers and outputs. Assumes nothing.
 use Prim.Native.Nat.{ℕ, min}
-use mathlib.Core.Path.{_≡_, refl, sym, ap, _∙_}
-use mathlib.Core.Bool.{true, false, cond, true≢false}
+use mathlib.Core.Path.{_≡_, refl, sym, ap, _∙_, subst}
+use mathlib.Core.Bool.{Bool, true, false, cond, _&&_, _||_, true≢false}
 use mathlib.Core.List.{List, [], _∷_}
 use native.Mathlib.Omega.{arith}
 use lib.Bits.{bitAnd, and-zero-r, or-zero-r}
-use lib.Dec.{eqb, leb}
+use lib.Dec.{eqb, leb, ltb}
 use borrow.Author.Tests.{eq-eqb, ne-eqb, leb-true, leb-false, eqb-true}
-use Rattle.integer.proofs.BoolLaws.{by-cases, both}
-use Rattle.integer.specs.Bits.{mergedOf}
+use Rattle.integer.proofs.BoolLaws.{by-cases}
+use Rattle.integer.proofs.PackLaws.{pending-law}
+use Rattle.integer.specs.Bits.{bitOf, mergedOf, packed}
+use Rattle.part.specs.declared.ChannelId.{ChannelId}
+use Rattle.part.specs.declared.ChannelId.the-variants.{Local, Remote1, Remote2}
+use Rattle.part.specs.declared.FanId.{FanId}
 use Rattle.part.specs.declared.FanId.the-variants.{One, Two}
 use Rattle.event.specs.Kinds.{isKind}
 use Rattle.event.specs.declared.Kind.the-variants as kind
 use Rattle.event.specs.declared.Event.{Event}
-use Rattle.register.specs.Table.{Row, says, table, registerAt, maskAt, resetAt, existsAt}
-use Rattle.register.specs.declared.Found.the-variants.{At, Nowhere}
-use Rattle.output.specs.Outputs as output
-use Rattle.history.specs.Events.{Taken, act, starts, writes, powered, storedAt, pointer}
-use Rattle.history.specs.Duties.{thermAsserted, duty, failures}
-use Rattle.history.specs.Shows as shows
-use Rattle.history.proofs.State.{portOf, channelRegistersOf, fanRegistersOf, registersOf, channelOf, channelsOf, fanOf, chipOf}
-use Rattle.history.proofs.TakenLaws.{Took, none, more}
+use Rattle.rules.specs.Registers.{Row, says, table, config1, extended, device, company, maskAt, resetAt, existsAt}
+use Rattle.rules.specs.Events.{byteGiven, restarts, writes}
+use Rattle.rules.specs.Stored.{Taken, powered, counts, storedAt, diodeError, pulledBit}
+use Rattle.rules.specs.Temperatures.{temperature, thermAsserted, channelOn, highBit, lowBit, thermBit}
+use Rattle.rules.specs.Duties.{duty, failures, alarmBit, faultBit}
+use Rattle.rules.specs.Shows.{status, byteAt, value, pending, intAsserted, faultAsserted, shown}
+use Rattle.reading.specs.Faithful.{Faithful}
+use Rattle.reading.proofs.FaithfulLaws.{faithful}
+use Rattle.input.specs.Inputs.{measured}
+use Rattle.stored.specs.Stored.{cells, found, storedIn}
+use Rattle.output.specs.Outputs.{statusOf, registerAt, intOf, faultOf, shownOf}
+use Rattle.history.proofs.State.{portBy, channelRegistersBy, fanRegistersBy, registersBy, channelBy, channelsBy, fanBy, chipBy}
+use Rattle.rules.proofs.TakenLaws.{Took, none, more}
+use Rattle.history.proofs.HeldLaws.{Held}
 
--- ---- the two registers that no write changes
+-- ---- the two registers that nothing changes
 
 -- what is on after an event and was not before it is on by a power
-up-restart : (e : Event) (d : Taken) → powered d ≡ false → powered (e ∷ d) ≡ true → starts e ≡ true
+up-restart : (e : Event) (d : Taken) → powered d ≡ false → powered (e ∷ d) ≡ true → restarts e ≡ true
 unfolding powered
 up-restart e d off on = by-cases (isKind kind.Power e) (λ p. rw p) (λ p. absurd (true≢false (sym on ∙ rw (p, off))))
-
--- a byte that every event keeps, and that a start afresh gives, is that byte from power on
-module _ (a b : ℕ) (afresh : (e : Event) (d : Taken) → starts e ≡ true → storedAt a (e ∷ d) ≡ b) (kept : (e : Event) (d : Taken) → storedAt a d ≡ b → storedAt a (e ∷ d) ≡ b) where
-  constant : {d : Taken} → Took d → powered d ≡ true → storedAt a d ≡ b
-  constant none on = absurd (true≢false (sym (unfold powered in on)))
-  constant (more {e = e} {d = d} go t) on =
-      by-cases (powered d)
-      (λ p. kept e d (constant t p))
-      (λ p. afresh e d (up-restart e d p on))
 
 no-mask : (b v : ℕ) → bitAnd b 255 ≡ b → mergedOf 0 b v ≡ b
 unfolding mergedOf
 no-mask b v q = rw (and-zero-r v) (or-zero-r (bitAnd b 255) ∙ q)
 
-device : {d : Taken} → Took d → powered d ≡ true → storedAt 0x3D d ≡ 0x31
-unfolding storedAt resetAt maskAt
-device =
-    constant 0x3D 0x31 (λ e d p. rw p)
-    (λ e d q. by-cases (starts e) (λ p. rw p) (λ p. by-cases (writes 0x3D e) (λ r. rw (p, r, q) (no-mask 0x31 (act e .val) refl)) (λ r. rw (p, r, q))))
+-- a byte that no write can change, and that is no fan's speed, is its byte after power from power on
+module _ (a b : ℕ) (reset : resetAt a ≡ b) (mask : maskAt a ≡ 0) (whole : bitAnd b 255 ≡ b) (uncounted : (e : Event) → counts a e ≡ false) where
+  kept : (e : Event) (d : Taken) → (restarts e ≡ false → storedAt a d ≡ b) → storedAt a (e ∷ d) ≡ b
+  unfolding storedAt
+  kept e d was =
+      by-cases (restarts e)
+      (λ r. rw r reset)
+      (λ r. by-cases (writes a e) (λ w. rw (r, w, mask, was r) (no-mask b (byteGiven e) whole)) (λ w. rw (r, w, uncounted e) (was r)))
 
-company : {d : Taken} → Took d → powered d ≡ true → storedAt 0x3E d ≡ 0x41
-unfolding storedAt resetAt maskAt
-company =
-    constant 0x3E 0x41 (λ e d p. rw p)
-    (λ e d q. by-cases (starts e) (λ p. rw p) (λ p. by-cases (writes 0x3E e) (λ r. rw (p, r, q) (no-mask 0x41 (act e .val) refl)) (λ r. rw (p, r, q))))
+  fixed : {d : Taken} → Took d → powered d ≡ true → storedAt a d ≡ b
+  fixed none on = absurd (true≢false (sym (unfold powered in on)))
+  fixed (more {e = e} {d = d} go t) on =
+      kept e d (λ r. fixed t (by-cases (powered d) (λ p. p) (λ p. absurd (true≢false (sym (up-restart e d p on) ∙ r)))))
+
+device-is : {d : Taken} → Took d → powered d ≡ true → storedAt device d ≡ 0x31
+unfolding resetAt maskAt
+device-is = fixed device 0x31 refl refl refl (λ e. refl)
+
+company-is : {d : Taken} → Took d → powered d ≡ true → storedAt company d ≡ 0x41
+unfolding resetAt maskAt
+company-is = fixed company 0x41 refl refl refl (λ e. refl)
 
 -- ---- each register
 
--- of every row: what the chip has by name is what the rules have by address
-unfoldable Right : List Row → Taken → Type 0
-Right [] d = Unit
-Right (r ∷ rs) d = (output.valueOf (chipOf d) (r .name) ≡ shows.byteAt (r .address) d) × Right rs d
+-- what holds at the address of every row holds at every address that exists
+infixr 5 _▹_
+data All (P : ℕ → Type 0) : List Row → Type 0 where
+  done : All P []
+  _▹_ : {r : Row} {rows : List Row} → P (r .address) → All P rows → All P (r ∷ rows)
 
-by-rows : (rows : List Row) (a : ℕ) (d : Taken) → Right rows d
-    → output.foundValue (chipOf d) (says (λ r. At (r .address) (r .name)) Nowhere rows a) ≡ cond (says (λ r. true) false rows a) (shows.byteAt a d) 0
-unfolding Right says
-by-rows [] a d p = refl
-by-rows (r ∷ rs) a d p =
+at-row : (P : ℕ → Type 0) {rows : List Row} → All P rows → (a : ℕ) → says (λ r. true) false rows a ≡ true → P a
+unfolding says
+at-row P done a y = absurd (true≢false (sym y))
+at-row P (_▹_ {r = r} p ps) a y =
     by-cases (eqb a (r .address))
-    (λ t. rw t (p .0 ∙ ap (λ (n : ℕ). shows.byteAt n d) (sym (eqb-true a (r .address) t))))
-    (λ t. rw t (by-rows rs a d (p .1)))
+    (λ q. subst P (sym (eqb-true a (r .address) q)) p)
+    (λ q. at-row P ps a (rw q at y))
 
-rows-right : (d : Taken) → storedAt 0x3D d ≡ 0x31 → storedAt 0x3E d ≡ 0x41 → Right table d
-unfolding Right table output.valueOf shows.byteAt chipOf portOf fanOf registersOf channelRegistersOf fanRegistersOf channelsOf channelOf output.statusOf shows.status
-rows-right d v c = (
-  refl,
-  (
-    refl,
-    (
-      refl,
-      (
-        refl,
-        (
-          refl,
-          (
-            refl,
-            (
-              refl,
-              (
-                refl,
-                (
-                  refl,
-                  (
-                    refl,
-                    (
-                      refl,
-                      (
-                        refl,
-                        (
-                          refl,
-                          (
-                            refl,
-                            (
-                              refl,
-                              (
-                                refl,
-                                (
-                                  refl,
-                                  (
-                                    refl,
-                                    (
-                                      refl,
-                                      (
-                                        refl,
-                                        (
-                                          refl,
-                                          (
-                                            refl,
-                                            (
-                                              refl,
-                                              (
-                                                refl,
-                                                (
-                                                  refl,
-                                                  (
-                                                    refl,
-                                                    (
-                                                      refl,
-                                                      (
-                                                        refl,
-                                                        (
-                                                          refl,
-                                                          (
-                                                            refl,
-                                                            (
-                                                              refl,
-                                                              (
-                                                                refl,
-                                                                (sym v, (sym c, (refl, tt))),
-                                                              ),
-                                                            ),
-                                                          ),
-                                                        ),
-                                                      ),
-                                                    ),
-                                                  ),
-                                                ),
-                                              ),
-                                            ),
-                                          ),
-                                        ),
-                                      ),
-                                    ),
-                                  ),
-                                ),
-                              ),
-                            ),
-                          ),
-                        ),
-                      ),
-                    ),
-                  ),
-                ),
-              ),
-            ),
-          ),
-        ),
-      ),
-    ),
-  ),
-)
+module _ (d : Taken) (v : storedAt device d ≡ 0x31) (c : storedAt company d ≡ 0x41) (held : Held d) where
+  abbrev Same : ℕ → Type 0
+  Same a = registerAt (chipBy d) a ≡ value a d
 
-pub value-is : {d : Taken} → Took d → powered d ≡ true → (a : ℕ) → output.valueAt (chipOf d) a ≡ shows.value a d
-unfolding output.valueAt shows.value registerAt existsAt
-value-is {d} t on a = by-rows table a d (rows-right d (device t on) (company t on))
+  stands : (c : ChannelId) → Faithful (temperature c d) (measured (temperature c d))
+  stands c = faithful (temperature c d) (measured (temperature c d)) (held c)
+
+  extended-same : Same extended
+  unfolding registerAt value byteAt existsAt chipBy channelsBy channelBy
+  extended-same = rw (stands Local .rest, stands Remote1 .rest, stands Remote2 .rest)
+
+  rows-same : All Same table
+  unfolding table registerAt value byteAt existsAt storedIn cells found chipBy portBy fanBy registersBy channelRegistersBy fanRegistersBy channelsBy channelBy statusOf status
+  rows-same =
+      refl ▹ refl ▹ refl ▹ refl ▹ extended-same ▹ refl ▹ refl ▹ refl ▹ stands Local .whole ▹ stands Remote1 .whole ▹ stands Remote2 .whole
+      ▹ refl ▹ refl ▹ refl ▹ refl ▹ refl ▹ refl ▹ refl ▹ refl ▹ refl ▹ refl ▹ refl ▹ refl ▹ refl ▹ refl ▹ refl ▹ refl ▹ refl ▹ refl ▹ refl ▹ refl ▹ refl
+      ▹ sym v ▹ sym c ▹ refl ▹ done
+
+pub value-is : {d : Taken} → Took d → Held d → powered d ≡ true → (a : ℕ) → registerAt (chipBy d) a ≡ value a d
+unfolding registerAt value existsAt
+value-is {d} t held on a =
+    by-cases (existsAt a)
+    (λ y. at-row (Same d (device-is t on) (company-is t on) held) (rows-same d (device-is t on) (company-is t on) held) a y)
+    (λ y. rw y)
 
 -- ---- outputs
 
-pending-is : (d : Taken) → output.pendingOf (chipOf d) ≡ shows.pending d
-unfolding output.pendingOf shows.pending chipOf portOf fanOf registersOf channelsOf channelOf
-pending-is d = refl
+-- INT: a bit of a status byte is set, bit 5 counting for an enabled channel
+pending-is : (d : Taken) → intOf (chipBy d) ≡ intAsserted d
+unfolding intOf intAsserted pending statusOf chipBy portBy fanBy registersBy channelsBy channelBy
+pending-is d = rw (pending-law, pending-law)
 
 -- a run held at 5 is 5 where five failures stand in a row
 five : (n : ℕ) → eqb (min 5 n) 5 ≡ leb 5 n
-five n = by-cases (leb 5 n) (λ q. eq-eqb (min 5 n) 5 (omega (arith, leb-true 5 n q)) ∙ sym q) (λ q. ne-eqb (min 5 n) 5 (λ z. omega (arith, leb-false 5 n q)) ∙ sym q)
+five n = by-cases (leb 5 n) (λ q. eq-eqb (min 5 n) 5 (omega (arith, leb-true 5 n q))
+    ∙ sym q) (λ q. ne-eqb (min 5 n) 5 (λ z. omega (arith, leb-false 5 n q)) ∙ sym q)
 
-pub shown-on : (d : Taken) → output.shownOf (chipOf d) ≡ shows.shown d
-unfolding output.shownOf shows.shown shows.intAsserted shows.faultAsserted thermAsserted duty chipOf fanOf registersOf channelsOf channelOf
-shown-on d = rw (pending-is d, five (failures One d), five (failures Two d))
+fault-is : (d : Taken) → faultOf (chipBy d) ≡ faultAsserted d
+unfolding faultOf faultAsserted chipBy fanBy registersBy
+fault-is d = rw (five (failures One d), five (failures Two d))
+
+pub shown-on : (d : Taken) → shownOf (chipBy d) ≡ shown d
+unfolding shownOf shown thermAsserted duty chipBy fanBy channelsBy channelBy
+shown-on d = rw (pending-is d, fault-is d)

@@ -9,12 +9,12 @@ use Rattle.part.specs.declared.FanId.the-variants.{One, Two}
 use Rattle.event.specs.Kinds.{isKind}
 use Rattle.event.specs.declared.Event.{Event}
 use Rattle.event.specs.declared.Kind.the-variants as kind
-use Rattle.keeper.specs.Keeping.{shownBy}
-use Rattle.input.specs.Inputs.{periods}
-use Rattle.judge.specs.Replies.{accepts}
+use Rattle.rules.specs.Events.{periods}
+use Rattle.rules.specs.Replies.{History, taken, accepted}
+use Rattle.rules.specs.Targets.{target, overridden}
+use Rattle.rules.specs.Duties.{enabled, filtered, rate, left, spin, duty, failed}
 use Rattle.drive.specs.Ramp.{outside}
-use Rattle.history.specs.Events.{History, act, taken, reply}
-use Rattle.history.specs.Duties as duties
+use Rattle.keeper.specs.Keeping.{shownBy}
 use Rattle.history.specs.Agreement.{run}
 
 -- the duty that the program shows after the list
@@ -22,36 +22,16 @@ unfoldable pub shownDuty : FanId → History → ℕ
 shownDuty One h = shownBy (run h) .duty1
 shownDuty Two h = shownBy (run h) .duty2
 
--- ---- the terms of the demand, from the list alone
+-- ---- counted in the list
 
-abbrev pub enabled : FanId → History → Bool
-enabled f h = duties.setting f (taken h) .enabled
-
-abbrev pub filtered : FanId → History → Bool
-filtered f h = duties.setting f (taken h) .filtered
-
-abbrev pub target : FanId → History → ℕ
-target f h = duties.setting f (taken h) .target
-
-abbrev pub rate : FanId → History → ℕ
-rate f h = duties.setting f (taken h) .rate
-
-abbrev pub overridden : History → Bool
-overridden h = duties.overridden (taken h)
-
-abbrev pub duty : FanId → History → ℕ
-duty f h = duties.duty f (taken h)
-
+-- what remains of the fan's spin-up: the clock events it was given when it last began, less those accepted since
 abbrev pub spinLeft : FanId → History → ℕ
-spinLeft f h = duties.left (duties.spin f (taken h))
-
-abbrev pub accepted : Event → History → Bool
-accepted e h = accepts (reply e h)
+spinLeft f h = left (spin f (taken h))
 
 -- of the events s, the newest first, that came after h: accepted periods of the fan, accepted clocks
 unfoldable pub periodsIn : FanId → List Event → History → ℕ
 periodsIn f [] h = 0
-periodsIn f (e ∷ s) h = cond (accepted e (s ++ h) && periods f (act e)) (suc (periodsIn f s h)) (periodsIn f s h)
+periodsIn f (e ∷ s) h = cond (accepted e (s ++ h) && periods f e) (suc (periodsIn f s h)) (periodsIn f s h)
 
 unfoldable pub clocksIn : List Event → History → ℕ
 clocksIn [] h = 0
@@ -61,13 +41,13 @@ clocksIn (e ∷ s) h = cond (accepted e (s ++ h) && isKind kind.Clock e) (suc (c
 
 -- after h the fan is enabled, neither of the two holds, and its worked-out target is d
 pub record Settled (f : FanId) (d : ℕ) (h : History) : Type 0 where
-  pub on : enabled f h ≡ true
-  pub free : overridden h ≡ false
-  pub aim : target f h ≡ d
+  pub on : enabled f (taken h) ≡ true
+  pub free : overridden (taken h) ≡ false
+  pub aim : target f (taken h) ≡ d
 
 -- an accepted write, a power-on or a failed measurement of the fan
 unfoldable pub disturbs : FanId → Event → History → Bool
-disturbs f e h = accepted e h && ((isKind kind.Write e || isKind kind.Power e) || duties.failed f e (taken h))
+disturbs f e h = accepted e h && ((isKind kind.Write e || isKind kind.Power e) || failed f e (taken h))
 
 -- the stretch s, the newest event first, that came after h: no event disturbs, and the fan is settled at its start and after each event
 unfoldable pub Stretch : FanId → ℕ → List Event → History → Type 0
@@ -77,19 +57,23 @@ Stretch f d (e ∷ s) h = Stretch f d s h × (disturbs f e (s ++ h) ≡ false) �
 -- h is a point of a stretch where nothing of the spin-up remains, and t the rest of the stretch, the newest event first.
 -- The gap is the distance from d of the duty that the rules give at h; the periods are counted in t.
 pub record Steady (f : FanId) (d : ℕ) (t : List Event) (h : History) : Type 0 where
-  pub flat : filtered f h ≡ false → shownDuty f (t ++ h) ≡ d
-  pub ramp : filtered f h ≡ true → outside d d (shownDuty f (t ++ h)) ≡ outside d d (duty f h) - periodsIn f t h * rate f h
-  pub there : filtered f h ≡ true → outside d d (duty f h) ≤ periodsIn f t h * rate f h → shownDuty f (t ++ h) ≡ d
+  pub flat : filtered f (taken h) ≡ false → shownDuty f (t ++ h) ≡ d
+  pub ramp :
+      filtered f (taken h) ≡ true →
+      outside d d (shownDuty f (t ++ h)) ≡ outside d d (duty f (taken h)) - periodsIn f t h * rate (taken h)
+  pub there :
+      filtered f (taken h) ≡ true → outside d d (duty f (taken h)) ≤ periodsIn f t h * rate (taken h) →
+      shownDuty f (t ++ h) ≡ d
   -- the side of d, which the letter leaves open
-  pub below : filtered f h ≡ true → duty f h ≤ d → shownDuty f (t ++ h) ≤ d
-  pub above : filtered f h ≡ true → d ≤ duty f h → d ≤ shownDuty f (t ++ h)
+  pub below : filtered f (taken h) ≡ true → duty f (taken h) ≤ d → shownDuty f (t ++ h) ≤ d
+  pub above : filtered f (taken h) ≡ true → d ≤ duty f (taken h) → d ≤ shownDuty f (t ++ h)
 
 -- The list is later ++ (t ++ (s ++ before)): the stretch, t ++ s, came after `before`.
 pub record Demand3 (es : History) : Type 0 where
   -- after each event, under override
   pub full :
       (f : FanId) (later now : History) → es ≡ later ++ now →
-      enabled f now ≡ true → overridden now ≡ true → shownDuty f now ≡ 240
+      enabled f (taken now) ≡ true → overridden (taken now) ≡ true → shownDuty f now ≡ 240
   -- from any point of the stretch, the first among them, where nothing of the spin-up remains
   pub steady :
       (f : FanId) (d : ℕ) (later t s before : History) → es ≡ later ++ (t ++ (s ++ before)) →
@@ -101,4 +85,4 @@ pub record Demand3 (es : History) : Type 0 where
   -- the duty is 0 exactly where the fan is disabled, or its target is 0 and it isn't overridden
   pub zero :
       (f : FanId) (later now : History) → es ≡ later ++ now →
-      eqb (shownDuty f now) 0 ≡ not (enabled f now && (overridden now || ltb 0 (target f now)))
+      eqb (shownDuty f now) 0 ≡ not (enabled f (taken now) && (overridden (taken now) || ltb 0 (target f (taken now))))

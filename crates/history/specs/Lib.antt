@@ -1,10 +1,8 @@
-pub mod Events
-pub mod Temperatures
-pub mod Duties
-pub mod Shows
 pub mod Agreement
-pub mod Page
+pub mod Demand1
 pub mod Demand3
 pub mod Bounds
 pub mod Readback
-pub mod Demand1
+pub mod Counts
+pub mod Witness
+pub mod Proved

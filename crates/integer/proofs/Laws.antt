@@ -1,22 +1,20 @@
 -- What an i32 tells after a test of its sign; a byte has no bit past place 7. Assumes nothing.
-use Prim.Native.Nat.{ℕ, zero, suc, _+_, _-_, _/_, _^_, _<_, _≤_}
+use Prim.Native.Nat.{ℕ, suc, _+_, _-_, _/_, _^_, _<_, _≤_}
 use mathlib.Core.Bool.{true, false}
 use mathlib.Core.Path.{_≡_, refl, sym, ap, _∙_}
 use native.Mathlib.Omega.{arith}
-use native.Mathlib.Nat.{zero-add, div-eq-of-lt}
+use native.Mathlib.Nat.{div-eq-of-lt}
 use lib.Pow.{pow-mono}
 use borrow.Author.Tests.{ltb-true, lt-ltb, le-ltb}
-use lib.Dec.{eqb}
 use lib.IntN.{ℤ, pos, negsuc, _-ℤ_}
 use lib.Signed.{mag, ltZ}
 use mir.Syntax.{w32}
 use mir.Val.{toZ, ofZ, SFits}
-use mir.ValLaws.{toZ-ofZ, toZ-pos}
+use mir.ValLaws.{toZ-ofZ}
 use Rattle.integer.specs.Bits.{bitOf}
-use Rattle.integer.specs.Range.{splitOf, signedOf, is, belowOf, eighthsOf}
+use Rattle.integer.specs.Range.{splitOf, belowOf, eighthsOf}
 use Rattle.integer.specs.declared.Split.{Split}
 use Rattle.integer.specs.declared.Split.the-variants.{Nat, Neg}
-use Rattle.integer.specs.declared.Signed.the-variants.{Number, Beyond}
 use Rattle.integer.specs.declared.Ranged.the-variants.{In, Out}
 
 -- v < 0 held: -1 - v is v's magnitude
@@ -39,14 +37,6 @@ unfolding splitOf
 split-nat (pos n) t = refl
 split-nat (negsuc n) t = cc
 
--- one less than the negation of n
-below-minus : (n : ℕ) → negsuc 0 -ℤ pos n ≡ negsuc n
-below-minus zero = refl
-below-minus (suc n) = simp (zero-add)
-
-pub minus : (n : ℕ) → n < 2147483648 → negsuc 0 -ℤ toZ w32 n ≡ negsuc n
-minus n h = ap (λ z. negsuc 0 -ℤ z) (toZ-pos w32 n h) ∙ below-minus n
-
 from-nat : {n : ℕ} (z : ℤ) → splitOf z ≡ Nat n → z ≡ pos n
 unfolding splitOf
 from-nat {n} (pos m) h = let e : m ≡ n = cc in ap pos e
@@ -67,14 +57,6 @@ module _ (v : ℤ) (fits : SFits w32 v) {s : Split} (e : s ≡ splitOf (toZ w32 
 
   pub is-neg : {n : ℕ} → s ≡ Neg n → v ≡ negsuc n
   is-neg q = from-neg v (sym split-is ∙ q)
-
-  pub is-nat : {m : ℕ} (n : ℕ) → s ≡ Nat m → eqb m n ≡ is v n
-  unfolding is
-  is-nat n q = rw (is-pos q)
-
-  pub is-never : {m : ℕ} (n : ℕ) → s ≡ Neg m → false ≡ is v n
-  unfolding is
-  is-never n q = rw (is-neg q)
 
   pub below-in : {n end : ℕ} → s ≡ Nat n → n < end → In n ≡ belowOf v end
   unfolding belowOf
@@ -103,27 +85,6 @@ module _ (v : ℤ) (fits : SFits w32 v) {s : Split} (e : s ≡ splitOf (toZ w32 
   pub eighths-out-neg : {n : ℕ} → s ≡ Neg n → 1024 ≤ n → Out ≡ eighthsOf v
   unfolding eighthsOf
   eighths-out-neg {n} q h = rw (is-neg q, le-ltb n 1024 h)
-
--- A sign and a distance, back to a number.
-module _ {s : Split} {n : ℕ} where
-  pub signed-nat : s ≡ Nat n → n < 2147483648 → Number (toZ w32 n) ≡ signedOf s
-  unfolding signedOf
-  signed-nat q h = ap Number (toZ-pos w32 n h) ∙ rw (q, lt-ltb n 2147483648 h)
-
-  pub signed-nat-beyond : s ≡ Nat n → 2147483648 ≤ n → Beyond ≡ signedOf s
-  unfolding signedOf
-  signed-nat-beyond q h = rw (q, le-ltb n 2147483648 h)
-
-  pub signed-neg : s ≡ Neg n → n < 2147483648 → Number (toZ w32 (ofZ w32 (negsuc 0 -ℤ toZ w32 n))) ≡ signedOf s
-  unfolding signedOf
-  signed-neg q h =
-      ap (λ (z : ℤ). Number (toZ w32 (ofZ w32 z))) (minus n h)
-      ∙ ap Number (toZ-ofZ w32 (negsuc n) (record { sfits = h }))
-      ∙ rw (q, lt-ltb n 2147483648 h)
-
-  pub signed-neg-beyond : s ≡ Neg n → 2147483648 ≤ n → Beyond ≡ signedOf s
-  unfolding signedOf
-  signed-neg-beyond q h = rw (q, le-ltb n 2147483648 h)
 
 -- A place past 7 has no bit.
 pub no-bit : (byte place : ℕ) → byte < 256 → 7 < place → false ≡ bitOf byte place

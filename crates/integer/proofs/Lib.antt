@@ -1,3 +1,5 @@
 pub mod Laws
 pub mod BitLaws
 pub mod BoolLaws
+pub mod PackLaws
+pub mod CodeLaws

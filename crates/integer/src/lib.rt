@@ -1,8 +1,9 @@
 // The border with signed numbers, and the bits of a byte.
-// Nothing above this crate has a signed operation.
+// Above this crate only `decimal` has a signed operation.
 ghost use mathlib.Core.Path.{_≡_};
-ghost use Rattle.integer.specs.Range.{splitOf, signedOf, is, belowOf, eighthsOf};
-ghost use Rattle.integer.specs.Bits.{bitOf, mergedOf, flagOf};
+ghost use Prim.Native.Nat.{_≤_};
+ghost use Rattle.integer.specs.Range.{splitOf, belowOf, eighthsOf};
+ghost use Rattle.integer.specs.Bits.{bitOf, mergedOf, flagOf, weighed, packed};
 
 // A number by its sign: `Nat(n)` is n, `Neg(n)` is -(n + 1).
 pub enum Split {
@@ -17,39 +18,6 @@ pub fn by_sign(v: i32) -> Split
         Split::Neg((-1 - v) as u32)
     } else {
         Split::Nat(v as u32)
-    }
-}
-
-pub enum Signed {
-    Number(i32),
-    Beyond,
-}
-
-// The number of a sign and a distance, where it fits.
-pub fn from_sign(s: Split) -> Signed
-    ensures { λ r. ⌜ r ≡ signedOf s ⌝ }
-{
-    match s {
-        Split::Nat(n) => if n < 2147483648 {
-            Signed::Number(n as i32)
-        } else {
-            Signed::Beyond
-        },
-        Split::Neg(n) => if n < 2147483648 {
-            Signed::Number(-1 - n as i32)
-        } else {
-            Signed::Beyond
-        },
-    }
-}
-
-// Whether a number is n.
-pub fn equals(v: i32, n: u16) -> bool
-    ensures { λ r. ⌜ r ≡ is v n ⌝ }
-{
-    match by_sign(v) {
-        Split::Nat(m) => m == n as u32,
-        Split::Neg(_) => false,
     }
 }
 
@@ -113,4 +81,25 @@ pub fn flag(on: bool) -> u8
     ensures { λ r. ⌜ r ≡ flagOf on ⌝ }
 {
     if on { 1 } else { 0 }
+}
+
+fn weighed(on: bool, weight: u8) -> u8
+    ensures { λ r. ⌜ r ≡ weighed on weight ⌝ }
+    ensures { λ r. ⌜ r ≤ weight ⌝ }
+{
+    if on { weight } else { 0 }
+}
+
+// Eight bits as a byte, the first at place 0.
+pub fn pack(b0: bool, b1: bool, b2: bool, b3: bool, b4: bool, b5: bool, b6: bool, b7: bool) -> u8
+    ensures { λ r. ⌜ r ≡ packed b0 b1 b2 b3 b4 b5 b6 b7 ⌝ }
+{
+    weighed(b0, 1)
+        + weighed(b1, 2)
+        + weighed(b2, 4)
+        + weighed(b3, 8)
+        + weighed(b4, 16)
+        + weighed(b5, 32)
+        + weighed(b6, 64)
+        + weighed(b7, 128)
 }

@@ -1,12 +1,12 @@
-// The reply to an event, the lowest number that applies; and an event as plain numbers.
+// The reply to an event in plain numbers: the lowest number that applies.
 // Nothing above judges a number again.
 use event::Answer;
-use event::Event;
+use event::Kind;
+use event::Refusal;
 use input::Input;
-use integer::Ranged;
 ghost use mathlib.Core.Path.{_≡_};
-ghost use Rattle.judge.specs.Plain.{insideOr, small, measured, plainOf, bytesOf};
-ghost use Rattle.judge.specs.Replies.{rowOf, fits, noPower, otherAddress, noPart, noRegister, readOnly, outOfRange, badCode, oddLocal, notMonitoring, lowest};
+ghost use Rattle.judge.specs.Judged.{rowOf, fitsRow, noPowerIn, otherAddressIn, noPartIn, noRegisterIn, readOnlyIn, outOfRangeIn, badCodeIn};
+ghost use Rattle.judge.specs.Judged.{oddLocalIn, notMonitoringIn, lowestIn};
 
 // What of the past a reply asks.
 pub struct Standing {
@@ -15,246 +15,144 @@ pub struct Standing {
     pub monitoring: bool,
 }
 
-// An event's numbers, and its kind by the place in document 01's table: 256 stands for every number that no byte
-// holds, 2048 for every val that is no sample's.
-pub struct Plain {
-    pub kind: u8,
-    pub who: u16,
-    pub arg: u16,
-    pub val: u16,
-    pub reading: u16,
-}
-
 // The ranges of a kind's numbers: who from low to high, the others from 0.
-pub struct Row {
-    pub low: u16,
-    pub high: u16,
-    pub arg: u16,
-    pub val: u16,
+pub struct PlainRanges {
+    pub low: u32,
+    pub high: u32,
+    pub arg: u32,
+    pub val: u32,
     pub reading: u16,
 }
 
-fn inside_or(none: u16, r: Ranged) -> u16
-    ensures { λ n. ⌜ n ≡ insideOr none r ⌝ }
+fn row(low: u32, high: u32, arg: u32, val: u32, reading: u16) -> PlainRanges
+    ensures { λ r. ⌜ r ≡ record { low = low; high = high; arg = arg; val = val; reading = reading } ⌝ }
 {
-    match r {
-        Ranged::In(n) => n,
-        Ranged::Out => none,
-    }
-}
-
-fn small(v: i32) -> u16
-    ensures { λ n. ⌜ n ≡ small v ⌝ }
-{
-    inside_or(256, integer::below(v, 256))
-}
-
-fn measured(v: i32) -> u16
-    ensures { λ n. ⌜ n ≡ measured v ⌝ }
-{
-    inside_or(2048, integer::eighths(v))
-}
-
-pub fn plain_of(e: Event) -> Plain
-    ensures { λ p. ⌜ p ≡ plainOf e ⌝ }
-{
-    let kind = event::place_of(event::kind_of(e));
-    let n = event::numbers_of(e);
-    let who = small(n.who);
-    let arg = small(n.arg);
-    let val = small(n.val);
-    let reading = measured(n.val);
-    Plain {
-        kind,
-        who,
+    PlainRanges {
+        low,
+        high,
         arg,
         val,
         reading,
     }
 }
 
-pub fn bytes_of(p: Plain) -> Input
-    ensures { λ a. ⌜ a ≡ bytesOf p ⌝ }
+// The row of a kind by its place; what is no kind carries nothing.
+fn row_of(kind: u8) -> PlainRanges
+    ensures { λ r. ⌜ r ≡ rowOf kind ⌝ }
 {
-    Input {
-        kind: p.kind,
-        who: (p.who % 256) as u8,
-        arg: (p.arg % 256) as u8,
-        val: (p.val % 256) as u8,
-        reading: p.reading,
+    match kind {
+        0 => row(44, 46, 1, 1, 2048),
+        1 => row(0, 127, 255, 255, 2048),
+        2 => row(0, 127, 255, 0, 2048),
+        3 => row(0, 127, 0, 0, 2048),
+        4 => row(0, 2, 0, 2147483648, 2047),
+        5 => row(1, 2, 0, 255, 2048),
+        6 => row(0, 0, 0, 1, 2048),
+        7 => row(0, 0, 0, 0, 2048),
+        8 => row(1, 2, 0, 0, 2048),
+        _ => row(0, 0, 0, 0, 2048),
     }
 }
 
-fn row_of(k: u8) -> Row
-    ensures { λ r. ⌜ r ≡ rowOf k ⌝ }
+fn fits_row(r: PlainRanges, i: Input) -> bool
+    ensures { λ b. ⌜ b ≡ fitsRow r i ⌝ }
 {
-    if k == 0 {
-        Row {
-            low: 44,
-            high: 46,
-            arg: 1,
-            val: 1,
-            reading: 2048,
-        }
-    } else if k == 1 {
-        Row {
-            low: 0,
-            high: 255,
-            arg: 255,
-            val: 255,
-            reading: 2048,
-        }
-    } else if k == 2 {
-        Row {
-            low: 0,
-            high: 255,
-            arg: 255,
-            val: 0,
-            reading: 2048,
-        }
-    } else if k == 3 {
-        Row {
-            low: 0,
-            high: 255,
-            arg: 0,
-            val: 0,
-            reading: 2048,
-        }
-    } else if k == 4 {
-        Row {
-            low: 0,
-            high: 2,
-            arg: 0,
-            val: 256,
-            reading: 2047,
-        }
-    } else if k == 5 {
-        Row {
-            low: 1,
-            high: 2,
-            arg: 0,
-            val: 255,
-            reading: 2048,
-        }
-    } else if k == 6 {
-        Row {
-            low: 0,
-            high: 0,
-            arg: 0,
-            val: 1,
-            reading: 2048,
-        }
-    } else if k == 7 {
-        Row {
-            low: 0,
-            high: 0,
-            arg: 0,
-            val: 0,
-            reading: 2048,
-        }
-    } else {
-        Row {
-            low: 1,
-            high: 2,
-            arg: 0,
-            val: 0,
-            reading: 2048,
-        }
-    }
+    ((r.low <= i.who) & (i.who <= r.high))
+        & ((i.arg <= r.arg) & ((i.val <= r.val) & (i.reading <= r.reading)))
 }
 
-fn fits(r: Row, p: Plain) -> bool
-    ensures { λ b. ⌜ b ≡ fits r p ⌝ }
+// ---- when each number applies
+
+fn no_power(s: Standing, i: Input) -> bool
+    ensures { λ b. ⌜ b ≡ noPowerIn s i ⌝ }
 {
-    ((r.low <= p.who) & (p.who <= r.high))
-        & ((p.arg <= r.arg) & ((p.val <= r.val) & (p.reading <= r.reading)))
+    !s.on & !input::is_a(Kind::Power, i)
 }
 
-fn out_of_range(p: Plain) -> bool
-    ensures { λ b. ⌜ b ≡ outOfRange p ⌝ }
+fn other_address(s: Standing, i: Input) -> bool
+    ensures { λ b. ⌜ b ≡ otherAddressIn s i ⌝ }
 {
-    !fits(row_of(p.kind), p)
+    (input::is_a(Kind::Write, i) | (input::is_a(Kind::Point, i) | input::is_a(Kind::Read, i)))
+        & !(i.who == s.address as u32)
 }
 
-fn no_power(s: Standing, p: Plain) -> bool
-    ensures { λ b. ⌜ b ≡ noPower s p ⌝ }
+fn no_part(i: Input) -> bool
+    ensures { λ b. ⌜ b ≡ noPartIn i ⌝ }
 {
-    !s.on & !(p.kind == 0)
+    (input::is_a(Kind::Sample, i) & !(i.who <= 2))
+        | ((input::is_a(Kind::Tach, i) | input::is_a(Kind::Period, i))
+            & !((1 <= i.who) & (i.who <= 2)))
 }
 
-fn other_address(s: Standing, p: Plain) -> bool
-    ensures { λ b. ⌜ b ≡ otherAddress s p ⌝ }
+fn no_register(i: Input) -> bool
+    ensures { λ b. ⌜ b ≡ noRegisterIn i ⌝ }
 {
-    ((p.kind == 1) | ((p.kind == 2) | (p.kind == 3))) & !(p.who == s.address as u16)
-}
-
-fn no_part(p: Plain) -> bool
-    ensures { λ b. ⌜ b ≡ noPart p ⌝ }
-{
-    ((p.kind == 4) & !(p.who <= 2))
-        | (((p.kind == 5) | (p.kind == 8)) & !((1 <= p.who) & (p.who <= 2)))
-}
-
-fn no_register(p: Plain) -> bool
-    ensures { λ b. ⌜ b ≡ noRegister p ⌝ }
-{
-    if (p.kind == 1) | (p.kind == 2) {
-        !((p.arg <= 255) & register::exists_at((p.arg % 256) as u8))
+    if input::is_a(Kind::Write, i) | input::is_a(Kind::Point, i) {
+        !((i.arg <= 255) & register::exists_at((i.arg % 256) as u8))
     } else {
         false
     }
 }
 
-fn read_only(p: Plain) -> bool
-    ensures { λ b. ⌜ b ≡ readOnly p ⌝ }
+fn read_only(i: Input) -> bool
+    ensures { λ b. ⌜ b ≡ readOnlyIn i ⌝ }
 {
-    if p.kind == 1 {
-        register::read_only_at((p.arg % 256) as u8)
+    if input::is_a(Kind::Write, i) {
+        register::read_only_at((i.arg % 256) as u8)
     } else {
         false
     }
 }
 
-fn bad_code(p: Plain) -> bool
-    ensures { λ b. ⌜ b ≡ badCode p ⌝ }
+fn out_of_range(i: Input) -> bool
+    ensures { λ b. ⌜ b ≡ outOfRangeIn i ⌝ }
 {
-    (p.kind == 1) & (((36 <= p.arg) & (p.arg <= 38)) & (5 <= p.val % 8))
+    !fits_row(row_of(i.kind), i)
 }
 
-fn odd_local(p: Plain) -> bool
-    ensures { λ b. ⌜ b ≡ oddLocal p ⌝ }
+fn bad_code(i: Input) -> bool
+    ensures { λ b. ⌜ b ≡ badCodeIn i ⌝ }
 {
-    (p.kind == 4) & ((p.who == 0) & (p.reading % 2 == 1))
+    input::is_a(Kind::Write, i)
+        & (((0x24 <= i.arg) & (i.arg <= 0x26)) & (5 <= input::byte_in(i) % 8))
 }
 
-fn not_monitoring(s: Standing, p: Plain) -> bool
-    ensures { λ b. ⌜ b ≡ notMonitoring s p ⌝ }
+fn odd_local(i: Input) -> bool
+    ensures { λ b. ⌜ b ≡ oddLocalIn i ⌝ }
 {
-    ((p.kind == 4) | (p.kind == 5)) & !s.monitoring
+    input::is_a(Kind::Sample, i) & ((i.who == 0) & (i.reading % 2 == 1))
 }
 
-// The reply: the lowest number that applies.
-pub fn reply(s: Standing, p: Plain) -> Answer
-    ensures { λ a. ⌜ a ≡ lowest s p ⌝ }
+fn not_monitoring(s: Standing, i: Input) -> bool
+    ensures { λ b. ⌜ b ≡ notMonitoringIn s i ⌝ }
 {
-    if no_power(s, p) {
-        Answer::NoPower
-    } else if other_address(s, p) {
-        Answer::OtherAddress
-    } else if no_part(p) {
-        Answer::NoSuchPart
-    } else if no_register(p) {
-        Answer::NoSuchRegister
-    } else if read_only(p) {
-        Answer::ReadOnly
-    } else if out_of_range(p) {
-        Answer::OutOfRange
-    } else if bad_code(p) {
-        Answer::BadRangeCode
-    } else if odd_local(p) {
-        Answer::OddLocal
-    } else if not_monitoring(s, p) {
-        Answer::NotMonitoring
+    (input::is_a(Kind::Sample, i) | input::is_a(Kind::Tach, i)) & !s.monitoring
+}
+
+// ---- the reply
+
+// The lowest number that applies.
+pub fn reply(s: Standing, i: Input) -> Answer
+    ensures { λ a. ⌜ a ≡ lowestIn s i ⌝ }
+{
+    if no_power(s, i) {
+        Answer::Refused(Refusal::NoPower)
+    } else if other_address(s, i) {
+        Answer::Refused(Refusal::OtherAddress)
+    } else if no_part(i) {
+        Answer::Refused(Refusal::NoSuchPart)
+    } else if no_register(i) {
+        Answer::Refused(Refusal::NoSuchRegister)
+    } else if read_only(i) {
+        Answer::Refused(Refusal::ReadOnly)
+    } else if out_of_range(i) {
+        Answer::Refused(Refusal::OutOfRange)
+    } else if bad_code(i) {
+        Answer::Refused(Refusal::BadRangeCode)
+    } else if odd_local(i) {
+        Answer::Refused(Refusal::OddLocal)
+    } else if not_monitoring(s, i) {
+        Answer::Refused(Refusal::NotMonitoring)
     } else {
         Answer::Done(0)
     }

@@ -9,16 +9,15 @@ use lib.ListN.{length, set, length-set}
 use lib.Seq.{sets}
 use borrow.Author.Tests.{lt-ltb, le-ltb, ne-eqb}
 use Rattle.event.specs.Answers.{numberOf}
-use Rattle.judge.specs.Plain.{plainOf, bytesOf}
-use Rattle.judge.specs.Replies.{lowest}
-use Rattle.judge.specs.declared.Plain.{Plain}
+use Rattle.judge.specs.Judged.{lowestIn}
 use Rattle.judge.specs.declared.Standing.{Standing}
 use Rattle.event.specs.declared.Event.{Event}
 use Rattle.event.specs.declared.Kind.the-variants as kind
 use Rattle.event.specs.declared.Answer.{Answer}
-use Rattle.event.specs.declared.Answer.the-variants.{Done, NoPower, WrongSize}
+use Rattle.event.specs.declared.Answer.the-variants.{Done, Refused}
+use Rattle.event.specs.declared.Refusal.the-variants.{NoPower, WrongSize}
 use Rattle.event.specs.declared.Shown.{Shown}
-use Rattle.input.specs.Inputs.{isA}
+use Rattle.input.specs.Inputs.{isA, inputOf}
 use Rattle.input.specs.declared.Input.{Input}
 use Rattle.stored.specs.declared.ChannelRegisters.{ChannelRegisters}
 use Rattle.stored.specs.declared.FanRegisters.{FanRegisters}
@@ -28,35 +27,37 @@ use Rattle.fan.specs.Fans.{stopped}
 use Rattle.fan.specs.declared.Fan.{Fan}
 use Rattle.chip.specs.Chips.{chipAfter}
 use Rattle.chip.specs.declared.Chip.{Chip}
-use Rattle.output.specs.Outputs.{valueAt, shownOf}
+use Rattle.output.specs.Outputs.{registerAt, shownOf}
 use Rattle.integer.specs.Bits.{bitOf}
 use Rattle.buffer.proofs.Laws.{sets-append}
 use Rattle.keeper.specs.declared.Keeper.{Keeper}
 use Rattle.keeper.specs.declared.Keeper.the-variants.{Off, On}
-use Rattle.keeper.specs.declared.Answered.{Answered}
-use Rattle.keeper.specs.Keeping.{blank, noChannelRegisters, noFanRegisters, noChannel, isOn, chipIn, standingWith, dataFor, acceptedBy, decided, answerOf, shownBy, valuesFrom, imageAnswer, imageBuffer}
+use Rattle.keeper.specs.declared.Outcome.{Outcome}
+use Rattle.keeper.specs.Keeping.{blank, noChannelRegisters, noFanRegisters, noChannel, isOn, chipIn, standingWith, dataFor, acceptedBy, decided}
+use Rattle.keeper.specs.Keeping.{outcomeOf, shownBy, imageFrom, imageAnswer, imageBuffer}
 
--- ---- what power starts from
+-- ---- a chip that never had power
 
-pub blank-settings : {a b c : ChannelRegisters} {f g : FanRegisters} → a ≡ noChannelRegisters → b ≡ noChannelRegisters → c ≡ noChannelRegisters → f ≡ noFanRegisters → g ≡ noFanRegisters
-    → _≡_ {A = Registers} (record { config1 = 0; config2 = 0; test = 0; speeds = 0; filter = 0; behaviour = 0; local = a; remote1 = b; remote2 = c; fan1 = f; fan2 = g }) (blank .registers)
-blank-settings p q r s t = rw (p, q, r, s, t)
+pub blank-registers :
+    {a b c : ChannelRegisters} {f g : FanRegisters} → a ≡ noChannelRegisters → b ≡ noChannelRegisters → c ≡ noChannelRegisters
+    → f ≡ noFanRegisters → g ≡ noFanRegisters
+    → _≡_ {A = Registers}
+    (record { config1 = 0; config2 = 0; test = 0; speeds = 0; filter = 0; behaviour = 0; local = a; remote1 = b; remote2 = c; fan1 = f; fan2 = g })
+    (blank .registers)
+blank-registers p q r s t = rw (p, q, r, s, t)
 
-pub blank-is : {s : Registers} {a b c : Channel} {f g : Fan} → a ≡ noChannel → b ≡ noChannel → c ≡ noChannel → s ≡ blank .registers → f ≡ stopped → g ≡ stopped
-    → _≡_ {A = Chip} (record { port = record { address = 0; pointer = 0; low = false; error1 = false; error2 = false; pulled = false }; registers = s; channels = record { local = a; remote1 = b; remote2 = c }; fan1 = f; fan2 = g }) blank
+pub blank-is :
+    {s : Registers} {a b c : Channel} {f g : Fan} → a ≡ noChannel → b ≡ noChannel → c ≡ noChannel → s ≡ blank .registers → f ≡ stopped → g ≡ stopped
+    → _≡_ {A = Chip}
+    (record {
+      port = record { address = 0; pointer = 0; «pin_low» = false; pulled = false };
+      registers = s;
+      channels = record { local = a; remote1 = b; remote2 = c };
+      fan1 = f;
+      fan2 = g;
+    })
+    blank
 blank-is p q r s t u = rw (p, q, r, s, t, u)
-
--- ---- one event
-
-module _ (c : Chip) (a : Input) {t : Bool} (is : t ≡ isA kind.Read a) where
-  pub data-read : {v : ℕ} → t ≡ true → v ≡ valueAt c (c .port .pointer) → v ≡ dataFor c a
-  data-read p e = rw (sym is ∙ p) e
-
-  pub data-none : t ≡ false → 0 ≡ dataFor c a
-  data-none p = rw (sym is ∙ p)
-
-pub accept-is : (c : Chip) (a : Input) {x : Chip} {d : ℕ} → d ≡ dataFor c a → x ≡ chipAfter a c → _≡_ {A = Answered} (record { keeper = On x; answer = Done d }) (acceptedBy c a)
-accept-is c a p q = rw (p, q)
 
 -- ---- what is shown
 
@@ -68,32 +69,69 @@ pub shown-chip : {k : Keeper} {c : Chip} {s : Shown} → k ≡ On c → s ≡ sh
 unfolding shownBy
 shown-chip p e = rw p e
 
+-- ---- one event
+
+module _ (c : Chip) (i : Input) {t : Bool} (is : t ≡ isA kind.Read i) where
+  pub data-read : {v : ℕ} → t ≡ true → v ≡ registerAt c (c .port .pointer) → v ≡ dataFor c i
+  data-read p e = rw (sym is ∙ p) e
+
+  pub data-none : t ≡ false → 0 ≡ dataFor c i
+  data-none p = rw (sym is ∙ p)
+
+pub accept-is : (c : Chip) (i : Input) {x : Chip} {d : ℕ} {s : Shown} → d ≡ dataFor c i → x ≡ chipAfter i c → s ≡ shownOf x
+    → _≡_ {A = Outcome} (record { keeper = On x; answer = Done d; shown = s }) (acceptedBy c i)
+accept-is c i p q r = rw (p, r, q)
+
+pub chip-on : {k : Keeper} {c : Chip} → k ≡ On c → c ≡ chipIn k
+chip-on p = rw p
+
+pub standing-is : (on : Bool) (c : Chip) {m : Bool} → m ≡ bitOf (c .registers .config1) 0
+    → _≡_ {A = Standing} (record { on = on; address = c .port .address; monitoring = m }) (standingWith on c)
+standing-is on c q = rw q
+
+module _ (k : Keeper) (c : Chip) (i : Input) (a : Answer) {n : ℕ} (q : n ≡ numberOf a) where
+  pub decide-done : {x : Outcome} → n ≡ 0 → x ≡ acceptedBy c i → x ≡ decided k c i a
+  decide-done z e = rw (sym q ∙ z) e
+
+  pub decide-not : {s : Shown} → (n ≡ 0 → ⊥) → s ≡ shownBy k → _≡_ {A = Outcome} (record { keeper = k; answer = a; shown = s }) (decided k c i a)
+  decide-not z e = rw (ne-eqb (numberOf a) 0 (λ y. z (q ∙ y)), e)
+
+pub step-is : (k : Keeper) (e : Event) {c : Chip} {i : Input} {on : Bool} {s : Standing} {a : Answer} {x : Outcome}
+    → c ≡ chipIn k → i ≡ inputOf e → on ≡ isOn k → s ≡ standingWith on c → a ≡ lowestIn s i → x ≡ decided k c i a → x ≡ outcomeOf k e
+unfolding outcomeOf
+step-is k e q r t u v w = w ∙ rw (v, u, t, q, r)
+
 -- ---- the image
 
-values-length : (a n : ℕ) (c : Chip) → length (valuesFrom a n c) ≡ n
-unfolding valuesFrom
-values-length a zero c = refl
-values-length a (suc n) c = ap suc (values-length (suc a) n c)
+image-length : (a n : ℕ) (c : Chip) → length (imageFrom a n c) ≡ n
+unfolding imageFrom
+image-length a zero c = refl
+image-length a (suc n) c = ap suc (image-length (suc a) n c)
 
-values-more : (a n : ℕ) (c : Chip) → valuesFrom a (n + 1) c ≡ valuesFrom a n c ++ (valueAt c (a + n) ∷ [])
-unfolding valuesFrom
-values-more a zero c = rw (add-zero)
-values-more a (suc n) c = rw (suc-add) (ap (λ (l : List ℕ). valueAt c a ∷ l) (values-more (suc a) n c ∙ ap (λ (k : ℕ). valuesFrom (suc a) n c ++ (valueAt c k ∷ [])) (omega arith)))
+image-more : (a n : ℕ) (c : Chip) → imageFrom a (n + 1) c ≡ imageFrom a n c ++ (registerAt c (a + n) ∷ [])
+unfolding imageFrom
+image-more a zero c = rw (add-zero)
+image-more a (suc n) c =
+    rw (suc-add)
+    (ap (λ (l : List ℕ). registerAt c a ∷ l)
+    (image-more (suc a) n c ∙ ap (λ (k : ℕ). imageFrom (suc a) n c ++ (registerAt c k ∷ [])) (omega arith)))
 
 -- one byte more
-pub fill-more : (c : Chip) (d d₀ : List ℕ) (a : ℕ) {v : ℕ} → d ≡ sets d₀ 0 (valuesFrom 0 a c) → v ≡ valueAt c a → set d a v ≡ sets d₀ 0 (valuesFrom 0 (a + 1) c)
+pub fill-more :
+    (c : Chip) (d d₀ : List ℕ) (a : ℕ) {v : ℕ} → d ≡ sets d₀ 0 (imageFrom 0 a c) → v ≡ registerAt c a
+    → set d a v ≡ sets d₀ 0 (imageFrom 0 (a + 1) c)
 fill-more c d d₀ a p q =
-    sym (ap (sets d₀ 0) (values-more 0 a c) ∙ sets-append (valuesFrom 0 a c) (valueAt c (0 + a) ∷ []) d₀ 0
-    ∙ rw (values-length 0 a c, zero-add, ← p, ← q))
+    sym (ap (sets d₀ 0) (image-more 0 a c) ∙ sets-append (imageFrom 0 a c) (registerAt c (0 + a) ∷ []) d₀ 0
+    ∙ rw (image-length 0 a c, zero-add, ← p, ← q))
 
 pub again-length : (d d₀ : List ℕ) (a v : ℕ) → length d ≡ length d₀ → length (set d a v) ≡ length d₀
 again-length d d₀ a v p = simp length-set p
 
-pub filled : (c : Chip) (d d₀ : List ℕ) (a : ℕ) → a ≤ 64 → 64 ≤ a → d ≡ sets d₀ 0 (valuesFrom 0 a c) → d ≡ sets d₀ 0 (valuesFrom 0 64 c)
-filled c d d₀ a l h p = p ∙ ap (λ (n : ℕ). sets d₀ 0 (valuesFrom 0 n c)) (omega arith)
+pub filled : (c : Chip) (d d₀ : List ℕ) (a : ℕ) → a ≤ 64 → 64 ≤ a → d ≡ sets d₀ 0 (imageFrom 0 a c) → d ≡ sets d₀ 0 (imageFrom 0 64 c)
+filled c d d₀ a l h p = p ∙ ap (λ (n : ℕ). sets d₀ 0 (imageFrom 0 n c)) (omega arith)
 
 module _ {k : Keeper} (d : List ℕ) where
-  pub image-off : k ≡ Off → NoPower ≡ imageAnswer k d
+  pub image-off : k ≡ Off → Refused NoPower ≡ imageAnswer k d
   unfolding imageAnswer
   image-off p = rw p
 
@@ -102,7 +140,7 @@ module _ {k : Keeper} (d : List ℕ) where
   buffer-off p = rw p
 
   module _ {c : Chip} (p : k ≡ On c) where
-    pub image-short : length d < 64 → WrongSize ≡ imageAnswer k d
+    pub image-short : length d < 64 → Refused WrongSize ≡ imageAnswer k d
     unfolding imageAnswer
     image-short h = rw (p, lt-ltb (length d) 64 h)
 
@@ -114,25 +152,6 @@ module _ {k : Keeper} (d : List ℕ) where
     unfolding imageAnswer
     image-done h = rw (p, le-ltb (length d) 64 h)
 
-    pub buffer-done : {d′ : List ℕ} → 64 ≤ length d → d′ ≡ sets d 0 (valuesFrom 0 64 c) → d′ ≡ imageBuffer k d
+    pub buffer-done : {d′ : List ℕ} → 64 ≤ length d → d′ ≡ sets d 0 (imageFrom 0 64 c) → d′ ≡ imageBuffer k d
     unfolding imageBuffer
     buffer-done h e = rw (p, le-ltb (length d) 64 h) e
-
--- ---- one event
-
-pub chip-on : {k : Keeper} {c : Chip} → k ≡ On c → c ≡ chipIn k
-chip-on p = rw p
-
-pub standing-is : (on : Bool) (c : Chip) {m : Bool} → m ≡ bitOf (c .registers .config1) 0 → _≡_ {A = Standing} (record { on = on; address = c .port .address; monitoring = m }) (standingWith on c)
-standing-is on c q = rw q
-
-pub decide-done : (k : Keeper) (c : Chip) (p : Plain) (a : Answer) {n : ℕ} {b : Input} {x : Answered} → n ≡ numberOf a → n ≡ 0 → b ≡ bytesOf p → x ≡ acceptedBy c b → x ≡ decided k c p a
-decide-done k c p a q z r e = rw (sym q ∙ z) (e ∙ ap (acceptedBy c) r)
-
-pub decide-not : (k : Keeper) (c : Chip) (p : Plain) (a : Answer) {n : ℕ} → n ≡ numberOf a → (n ≡ 0 → ⊥) → _≡_ {A = Answered} (record { keeper = k; answer = a }) (decided k c p a)
-decide-not k c p a q z = rw (ne-eqb (numberOf a) 0 (λ y. z (q ∙ y)))
-
-pub step-is : (k : Keeper) (e : Event) {c : Chip} {p : Plain} {on : Bool} {s : Standing} {a : Answer} {x : Answered}
-    → c ≡ chipIn k → p ≡ plainOf e → on ≡ isOn k → s ≡ standingWith on c → a ≡ lowest s p → x ≡ decided k c p a → x ≡ answerOf k e
-unfolding answerOf
-step-is k e q r t u v w = w ∙ rw (v, u, t, q, r)

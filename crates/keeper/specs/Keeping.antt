@@ -1,4 +1,4 @@
--- The keeper: off, or a chip that has power. What each event is answered, and what is shown.
+-- The keeper: off, or a chip that has power. What each event is answered, and what is shown after it.
 use Prim.Native.Nat.{ℕ, zero, suc}
 use mathlib.Core.Bool.{Bool, true, false, cond}
 use mathlib.Core.List.{List, [], _∷_}
@@ -8,25 +8,25 @@ use lib.Seq.{sets}
 use Rattle.event.specs.declared.Event.{Event}
 use Rattle.event.specs.declared.Kind.the-variants as kind
 use Rattle.event.specs.declared.Answer.{Answer}
-use Rattle.event.specs.declared.Answer.the-variants.{Done, NoPower, WrongSize}
+use Rattle.event.specs.declared.Answer.the-variants.{Done, Refused}
+use Rattle.event.specs.declared.Refusal.the-variants.{NoPower, WrongSize}
 use Rattle.event.specs.declared.Shown.{Shown}
-use Rattle.judge.specs.Plain.{plainOf, bytesOf}
-use Rattle.judge.specs.Replies.{lowest, accepts}
-use Rattle.judge.specs.declared.Plain.{Plain}
-use Rattle.judge.specs.declared.Standing.{Standing}
-use Rattle.input.specs.Inputs.{isA}
+use Rattle.rules.specs.Fields.{monitors}
+use Rattle.rules.specs.Replies.{accepts}
+use Rattle.input.specs.Inputs.{isA, inputOf}
 use Rattle.input.specs.declared.Input.{Input}
-use Rattle.stored.specs.Stored.{monitors}
+use Rattle.judge.specs.Judged.{lowestIn}
+use Rattle.judge.specs.declared.Standing.{Standing}
 use Rattle.stored.specs.declared.ChannelRegisters.{ChannelRegisters}
 use Rattle.stored.specs.declared.FanRegisters.{FanRegisters}
 use Rattle.channel.specs.declared.Channel.{Channel}
 use Rattle.fan.specs.Fans.{stopped}
 use Rattle.chip.specs.Chips.{chipAfter}
 use Rattle.chip.specs.declared.Chip.{Chip}
-use Rattle.output.specs.Outputs as output
+use Rattle.output.specs.Outputs.{registerAt, shownOf}
 use Rattle.keeper.specs.declared.Keeper.{Keeper}
 use Rattle.keeper.specs.declared.Keeper.the-variants.{Off, On}
-use Rattle.keeper.specs.declared.Answered.{Answered}
+use Rattle.keeper.specs.declared.Outcome.{Outcome}
 
 -- a chip that never had power: its bytes and readings are 0, a reading held with 1024 added
 abbrev pub noChannelRegisters : ChannelRegisters
@@ -36,12 +36,12 @@ abbrev pub noFanRegisters : FanRegisters
 noFanRegisters = record { speed = 0; limit = 0; characteristics = 0 }
 
 abbrev pub noChannel : Channel
-noChannel = record { reading = 1024; latch = false; flag = false; over = false; under = false; hot = false }
+noChannel = record { reading = 1024; latch = false; flag = false; high = false; low = false; therm = false; error = false }
 
 abbrev pub blank : Chip
 blank =
     record {
-      port = record { address = 0; pointer = 0; low = false; error1 = false; error2 = false; pulled = false };
+      port = record { address = 0; pointer = 0; «pin_low» = false; pulled = false };
       registers =
           record {
             config1 = 0;
@@ -61,13 +61,6 @@ blank =
       fan2 = stopped;
     }
 
--- only a read returns data: that of the register at the pointer
-abbrev pub dataFor : Chip → Input → ℕ
-dataFor c a = cond (isA kind.Read a) (output.valueAt c (c .port .pointer)) 0
-
-abbrev pub acceptedBy : Chip → Input → Answered
-acceptedBy c a = record { keeper = On (chipAfter a c); answer = Done (dataFor c a) }
-
 -- a keeper that never had power has a chip too: the one before the first event
 abbrev pub isOn : Keeper → Bool
 isOn Off = false
@@ -79,33 +72,43 @@ chipIn (On c) = c
 
 -- what a reply asks of it
 abbrev pub standingWith : (on : Bool) → Chip → Standing
-standingWith on c = record { on = on; address = c .port .address; monitoring = monitors (c .registers) }
+standingWith on c = record { on = on; address = c .port .address; monitoring = monitors (c .registers .config1) }
 
 abbrev pub standingOf : Keeper → Standing
 standingOf k = standingWith (isOn k) (chipIn k)
 
--- a refusal leaves the keeper; else the chip moves
-abbrev pub decided : Keeper → Chip → Plain → Answer → Answered
-decided k c p a = cond (accepts a) (acceptedBy c (bytesOf p)) (record { keeper = k; answer = a })
-
-unfoldable pub answerOf : Keeper → Event → Answered
-answerOf k e = decided k (chipIn k) (plainOf e) (lowest (standingOf k) (plainOf e))
-
 -- before the first power all outputs are 0
 unfoldable pub shownBy : Keeper → Shown
 shownBy Off = record { int = 0; therm = 0; fault = 0; duty1 = 0; duty2 = 0 }
-shownBy (On c) = output.shownOf c
+shownBy (On c) = shownOf c
+
+-- only a read returns data: that of the register at the pointer
+abbrev pub dataFor : Chip → Input → ℕ
+dataFor c i = cond (isA kind.Read i) (registerAt c (c .port .pointer)) 0
+
+-- an accepted event moves the chip; a refusal leaves the keeper
+abbrev pub acceptedBy : Chip → Input → Outcome
+acceptedBy c i = record { keeper = On (chipAfter i c); answer = Done (dataFor c i); shown = shownOf (chipAfter i c) }
+
+abbrev pub refusedBy : Keeper → Answer → Outcome
+refusedBy k a = record { keeper = k; answer = a; shown = shownBy k }
+
+abbrev pub decided : Keeper → Chip → Input → Answer → Outcome
+decided k c i a = cond (accepts a) (acceptedBy c i) (refusedBy k a)
+
+unfoldable pub outcomeOf : Keeper → Event → Outcome
+outcomeOf k e = decided k (chipIn k) (inputOf e) (lowestIn (standingOf k) (inputOf e))
 
 -- the register image (below the reply table): place a holds what a read of a would return
-unfoldable pub valuesFrom : (from count : ℕ) → Chip → List ℕ
-valuesFrom a zero c = []
-valuesFrom a (suc n) c = output.valueAt c a ∷ valuesFrom (suc a) n c
+unfoldable pub imageFrom : (from count : ℕ) → Chip → List ℕ
+imageFrom a zero c = []
+imageFrom a (suc n) c = registerAt c a ∷ imageFrom (suc a) n c
 
 unfoldable pub imageAnswer : Keeper → (buffer : List ℕ) → Answer
-imageAnswer Off buffer = NoPower
-imageAnswer (On c) buffer = cond (ltb (length buffer) 64) WrongSize (Done 0)
+imageAnswer Off buffer = Refused NoPower
+imageAnswer (On c) buffer = cond (ltb (length buffer) 64) (Refused WrongSize) (Done 0)
 
 -- with 1 or 11 no byte of the buffer changes; bytes after the 64th stay
 unfoldable pub imageBuffer : Keeper → List ℕ → List ℕ
 imageBuffer Off buffer = buffer
-imageBuffer (On c) buffer = cond (ltb (length buffer) 64) buffer (sets buffer 0 (valuesFrom 0 64 c))
+imageBuffer (On c) buffer = cond (ltb (length buffer) 64) buffer (sets buffer 0 (imageFrom 0 64 c))

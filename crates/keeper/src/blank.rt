@@ -1,4 +1,4 @@
-// What power starts from; nothing of it can be seen, since power sets each.
+// A chip that never had power; nothing of it can be seen, since power sets each.
 use channel::Channel;
 use channel::Channels;
 use chip::Chip;
@@ -41,9 +41,10 @@ pub fn no_channel() -> Channel
         reading: 1024,
         latch: false,
         flag: false,
-        over: false,
-        under: false,
-        hot: false,
+        high: false,
+        low: false,
+        therm: false,
+        error: false,
     }
 }
 
@@ -83,9 +84,7 @@ pub fn blank_chip() -> Chip
     let port = Port {
         address: 0,
         pointer: 0,
-        low: false,
-        error1: false,
-        error2: false,
+        pin_low: false,
         pulled: false,
     };
     let channels = Channels {

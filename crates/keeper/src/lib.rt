@@ -6,25 +6,26 @@ use chip::Chip;
 use event::Answer;
 use event::Event;
 use event::Kind;
+use event::Refusal;
 use event::Shown;
 use input::Input;
-use judge::Plain;
 use judge::Standing;
 ghost use mathlib.Core.Path.{_≡_};
 ghost use Prim.Native.Nat.{_≤_};
 ghost use lib.ListN.{length};
 ghost use lib.Seq.{sets};
-ghost use Rattle.keeper.specs.Keeping.{isOn, chipIn, standingWith, dataFor, acceptedBy, decided, answerOf, shownBy, valuesFrom, imageAnswer, imageBuffer};
+ghost use Rattle.keeper.specs.Keeping.{isOn, chipIn, standingWith, dataFor, acceptedBy, decided, outcomeOf, shownBy, imageFrom, imageAnswer, imageBuffer};
 
 pub enum Keeper {
     Off,
     On(Chip),
 }
 
-// The next keeper, and the answer.
-pub struct Answered {
+// The next keeper, the answer, and what is shown after the event.
+pub struct Outcome {
     pub keeper: Keeper,
     pub answer: Answer,
+    pub shown: Shown,
 }
 
 impl Keeper {
@@ -36,26 +37,46 @@ impl Keeper {
     }
 }
 
+// ---- what is shown
+
+// INT, THERM, FAN_FAULT and the duties; all 0 before the first power.
+pub fn shown(k: Keeper) -> Shown
+    ensures { λ r. ⌜ r ≡ shownBy k ⌝ }
+{
+    match k {
+        Keeper::Off => Shown {
+            int: 0,
+            therm: 0,
+            fault: 0,
+            duty1: 0,
+            duty2: 0,
+        },
+        Keeper::On(c) => output::shown(c),
+    }
+}
+
 // ---- one event
 
 // Only a read returns data.
-fn data_for(c: Chip, a: Input) -> u8
-    ensures { λ r. ⌜ r ≡ dataFor c a ⌝ }
+fn data_for(c: Chip, i: Input) -> u8
+    ensures { λ r. ⌜ r ≡ dataFor c i ⌝ }
 {
-    if input::is_a(Kind::Read, a) {
+    if input::is_a(Kind::Read, i) {
         output::value_at(c, c.port.pointer)
     } else {
         0
     }
 }
 
-fn accept(c: Chip, a: Input) -> Answered
-    ensures { λ r. ⌜ r ≡ acceptedBy c a ⌝ }
+fn accept(c: Chip, i: Input) -> Outcome
+    ensures { λ r. ⌜ r ≡ acceptedBy c i ⌝ }
 {
-    let data = data_for(c, a);
-    Answered {
-        keeper: Keeper::On(chip::chip_after(a, c)),
+    let data = data_for(c, i);
+    let next = chip::chip_after(i, c);
+    Outcome {
+        keeper: Keeper::On(next),
         answer: Answer::Done(data),
+        shown: output::shown(next),
     }
 }
 
@@ -87,50 +108,35 @@ fn standing(on: bool, c: Chip) -> Standing
     }
 }
 
-fn decide(k: Keeper, c: Chip, p: Plain, a: Answer) -> Answered
-    ensures { λ r. ⌜ r ≡ decided k c p a ⌝ }
+fn decide(k: Keeper, c: Chip, i: Input, a: Answer) -> Outcome
+    ensures { λ r. ⌜ r ≡ decided k c i a ⌝ }
 {
     if event::number_of(a) == 0 {
-        accept(c, judge::bytes_of(p))
+        accept(c, i)
     } else {
-        Answered {
+        Outcome {
             keeper: k,
             answer: a,
+            shown: shown(k),
         }
     }
 }
 
-// One event: the next keeper and the answer.
-pub fn step(k: Keeper, e: Event) -> Answered
-    ensures { λ r. ⌜ r ≡ answerOf k e ⌝ }
+// One event: the next keeper, the answer, and what is shown.
+pub fn step(k: Keeper, e: Event) -> Outcome
+    ensures { λ r. ⌜ r ≡ outcomeOf k e ⌝ }
 {
     let c = chip_in(k);
-    let p = judge::plain_of(e);
-    let a = judge::reply(standing(is_on(k), c), p);
-    decide(k, c, p, a)
+    let i = input::input_of(e);
+    let a = judge::reply(standing(is_on(k), c), i);
+    decide(k, c, i, a)
 }
 
-// ---- what is shown
-
-// INT, THERM, FAN_FAULT and the duties; all 0 before the first power.
-pub fn shown(k: Keeper) -> Shown
-    ensures { λ r. ⌜ r ≡ shownBy k ⌝ }
-{
-    match k {
-        Keeper::Off => Shown {
-            int: 0,
-            therm: 0,
-            fault: 0,
-            duty1: 0,
-            duty2: 0,
-        },
-        Keeper::On(c) => output::shown(c),
-    }
-}
+// ---- the register image
 
 fn fill(c: Chip, buffer: &mut [u8])
     requires { ⌜ 64 ≤ length (now buffer) ⌝ }
-    ensures { λ _. ⌜ now (buffer .exit) ≡ sets (now (buffer .entry)) 0 (valuesFrom 0 64 c) ⌝ }
+    ensures { λ _. ⌜ now (buffer .exit) ≡ sets (now (buffer .entry)) 0 (imageFrom 0 64 c) ⌝ }
 {
     let mut a: u8 = 0;
     while a < 64 {
@@ -145,10 +151,10 @@ pub fn image(k: Keeper, buffer: &mut [u8]) -> Answer
     ensures { λ _. ⌜ now (buffer .exit) ≡ imageBuffer k (now (buffer .entry)) ⌝ }
 {
     match k {
-        Keeper::Off => Answer::NoPower,
+        Keeper::Off => Answer::Refused(Refusal::NoPower),
         Keeper::On(c) => {
             if buffer.len() < 64 {
-                return Answer::WrongSize;
+                return Answer::Refused(Refusal::WrongSize);
             }
             fill(c, buffer);
             Answer::Done(0)

@@ -1,20 +1,33 @@
 -- Laws of `sameBytes` of `specs/Line.antt`. Assumes nothing.
 use Prim.Native.Nat.{ℕ, suc, _+_, _≤_, _<_}
-use mathlib.Core.Path.{_≡_, refl, ap, _∙_}
+use mathlib.Core.Path.{_≡_, refl, sym, ap, _∙_}
 use mathlib.Core.List.{List, [], _∷_}
-use mathlib.Core.Bool.{Bool, true, false, _&&_}
+use mathlib.Core.Bool.{Bool, true, false, _&&_, true≢false}
 use native.Mathlib.Omega.{arith}
 use native.Mathlib.Numerals.{add-one}
 use lib.Dec.{eqb}
 use lib.ListN.{length, getD, drop, drop-of-length-le}
 use lib.Seq.{drop-cons}
-use borrow.Author.Tests.{eq-eqb, ne-eqb}
+use borrow.Author.Tests.{eq-eqb, ne-eqb, eqb-true}
 use Rattle.line.specs.Line.{sameBytes}
 
 pub same-self : (l : List ℕ) → sameBytes l l ≡ true
 unfolding sameBytes
 same-self [] = refl
 same-self (b ∷ bs) = rw (eq-eqb b b refl) (same-self bs)
+
+both : (a b : Bool) → (a && b) ≡ true → (a ≡ true) × (b ≡ true)
+both true b h = (refl, h)
+both false b h = absurd (true≢false (sym h))
+
+pub same-then : (a b : List ℕ) → sameBytes a b ≡ true → a ≡ b
+unfolding sameBytes
+same-then [] [] h = refl
+same-then [] (y ∷ ys) h = absurd (true≢false (sym h))
+same-then (x ∷ xs) [] h = absurd (true≢false (sym h))
+same-then (x ∷ xs) (y ∷ ys) h =
+    let t = both (eqb x y) (sameBytes xs ys) h in
+    rw (eqb-true x y (t .0), same-then xs ys (t .1))
 
 -- what is false stays so under a test
 false-under : (t : Bool) {u : Bool} → false ≡ u → false ≡ t && u

@@ -1,16 +1,16 @@
 -- Laws of the lines of `specs/Line.antt`: where a line ends, and what stands there. Assumes nothing.
-use Prim.Native.Nat.{ℕ, _+_, _-_, _≤_, _<_}
+use Prim.Native.Nat.{ℕ, suc, _+_, _-_, _≤_, _<_}
 use mathlib.Core.Path.{_≡_, refl, sym, ap, _∙_}
-use mathlib.Core.List.{List, [], _∷_}
+use mathlib.Core.List.{List, [], _∷_, _++_}
 use mathlib.Core.Bool.{Bool, true, false, cond}
 use native.Mathlib.Omega.{arith}
-use native.Mathlib.Nat.{add-zero}
+use native.Mathlib.Nat.{add-zero, add-comm}
 use native.Mathlib.Numerals.{add-one}
 use lib.Dec.{eqb}
 use lib.ListN.{length, getD, take, drop, drop-of-length-le, length-drop}
 use lib.Seq.{drop-cons, take-nil}
-use borrow.Author.Tests.{eq-eqb, ne-eqb}
-use Rattle.line.specs.Line.{firstLine, lineAt, endAt}
+use borrow.Author.Tests.{lt-ltb, le-ltb, eq-eqb, ne-eqb, eqb-true}
+use Rattle.line.specs.Line.{firstLine, lineAt, endAt, startOf}
 
 -- ---- the search of a line's end
 
@@ -49,6 +49,18 @@ line-short (b ∷ bs) = go (eqb b 10) (line-short bs)
     go true h = omega arith
     go false h = omega arith
 
+-- behind a line that ends before its text there is a newline
+take-ended : (l : List ℕ) → length (firstLine l) < length l → take (suc (length (firstLine l))) l ≡ firstLine l ++ (10 ∷ [])
+unfolding firstLine
+take-ended [] h = absurd (omega arith)
+take-ended (b ∷ bs) h = go (eqb b 10) refl h (take-ended bs)
+  where
+    go : (t : Bool) → eqb b 10 ≡ t → length (cond t [] (b ∷ firstLine bs)) < length (b ∷ bs)
+        → (length (firstLine bs) < length bs → take (suc (length (firstLine bs))) bs ≡ firstLine bs ++ (10 ∷ []))
+        → take (suc (length (cond t [] (b ∷ firstLine bs)))) (b ∷ bs) ≡ cond t [] (b ∷ firstLine bs) ++ (10 ∷ [])
+    go true e h ih = rw (eqb-true b 10 e)
+    go false e h ih = ap (λ (l : List ℕ). b ∷ l) (ih (omega arith))
+
 module _ (s : List ℕ) (at : ℕ) {e : ℕ} (end : e ≡ endAt s at) where
   pub end-from : at ≤ e
   unfolding endAt
@@ -64,8 +76,25 @@ module _ (s : List ℕ) (at : ℕ) {e : ℕ} (end : e ≡ endAt s at) where
       let n : e - at ≡ length (firstLine (drop at s)) = omega arith in
       rw n (take-line (drop at s))
 
+  pub ended-part : e < length s → take (e + 1 - at) (drop at s) ≡ lineAt s at ++ (10 ∷ [])
+  unfolding endAt lineAt
+  ended-part h =
+      let n : e + 1 - at ≡ suc (length (firstLine (drop at s))) = omega arith in
+      rw n (take-ended (drop at s) (omega (arith, length-drop at s)))
+
 -- past the end of the text there is the empty line
 pub line-past : (s : List ℕ) (at : ℕ) → length s < at → take (length s - length s) (drop (length s) s) ≡ lineAt s at
 unfolding lineAt firstLine
 line-past s at h =
     rw (drop-of-length-le s {i = length s} (omega arith), drop-of-length-le s {i = at} (omega arith), take-nil)
+
+-- ---- where a line lies: in the text's memory, behind its start o
+
+module _ (s : List ℕ) (at b o : ℕ) where
+  pub lies-past : length s < at → _≡_ {A = ℕ × ℕ} (b, length s + o) (b, o + startOf s at)
+  unfolding startOf
+  lies-past h = rw (lt-ltb (length s) at h, add-comm (length s) o)
+
+  pub lies-at : at ≤ length s → _≡_ {A = ℕ × ℕ} (b, at + o) (b, o + startOf s at)
+  unfolding startOf
+  lies-at h = rw (le-ltb (length s) at h, add-comm at o)

@@ -2,8 +2,10 @@
 use Prim.Native.Nat.{ℕ, _+_}
 use mathlib.Core.List.{List, [], _∷_}
 use mathlib.Core.Bool.{Bool, true, false, cond, _&&_}
-use lib.Dec.{eqb}
+use mathlib.Core.Path.{_≡_}
+use lib.Dec.{ltb, eqb}
 use lib.ListN.{length, drop}
+use denote.Ref.{RefT}
 
 unfoldable pub sameBytes : List ℕ → List ℕ → Bool
 sameBytes [] [] = true
@@ -25,3 +27,11 @@ lineAt text at = firstLine (drop at text)
 unfoldable pub endAt : List ℕ → ℕ → ℕ
 unfolding lineAt
 endAt text at = at + length (lineAt text at)
+
+-- where that line starts in the text: at its end, for an index past it
+unfoldable pub startOf : List ℕ → ℕ → ℕ
+startOf text at = cond (ltb (length text) at) (length text) at
+
+-- a lent slice is a part of a lent text: it lies in the same memory, so many bytes behind the text's start
+abbrev pub IsPart : (part text : RefT (List ℕ)) → (start : ℕ) → Type 0
+IsPart part text start = part .ptr ≡ (text .ptr .0, text .ptr .1 + start)

@@ -1,7 +1,7 @@
 // Lines of a lent text, by the index at which they start.
 // A line that no newline ends, and the empty one at the end of the text, are lines that end with the text.
 ghost use mathlib.Core.Path.{_≡_};
-ghost use Rattle.line.specs.Line.{sameBytes, lineAt, endAt};
+ghost use Rattle.line.specs.Line.{sameBytes, lineAt, endAt, startOf, IsPart};
 
 // Whether a and b hold the same bytes.
 pub fn same(a: &[u8], b: &[u8]) -> bool
@@ -36,7 +36,7 @@ pub fn line_end(text: &[u8], at: usize) -> usize
 
 // The line that starts at `at`, without its newline, as a part of the text; past the end, the empty part there.
 pub fn line_at(text: &[u8], at: usize) -> &[u8]
-    ensures { λ r. ⌜ now r ≡ lineAt (now (text .entry)) at ⌝ }
+    ensures { λ r. ⌜ (now r ≡ lineAt (now (text .entry)) at) × (IsPart r (text .entry) (startOf (now (text .entry)) at)) ⌝ }
 {
     let n = text.len();
     if n < at {

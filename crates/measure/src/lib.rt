@@ -1,7 +1,6 @@
 // How long the texts of a report are, before they are written.
 // A report that does not fit is refused before any byte of the buffer changes.
 use event::Answer;
-use event::Outcome;
 use event::Shown;
 ghost use mathlib.Core.Path.{_≡_};
 ghost use Prim.Native.Nat.{_≤_};
@@ -51,11 +50,9 @@ fn duty_len(s: Shown) -> usize
 }
 
 // The length of the seven lines of an event.
-pub fn entry_len(o: Outcome) -> usize
-    ensures { λ r. ⌜ (r ≡ length (entryText o)) × (r ≤ 68) ⌝ }
+pub fn entry_len(answer: Answer, shown: Shown) -> usize
+    ensures { λ r. ⌜ (r ≡ length (entryText answer shown)) × (r ≤ 68) ⌝ }
 {
-    let answer = o.answer;
-    let shown = o.shown;
     reply_len(answer) + pin_len(shown) + duty_len(shown)
 }
 

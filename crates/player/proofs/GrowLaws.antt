@@ -7,16 +7,19 @@ use native.Mathlib.Nat.{sub-zero, zero-add}
 use lib.ListN.{length, take, drop, length-append}
 use lib.Seq.{sets, sets-eq, take-at, length-take-le, length-sets}
 use Rattle.event.specs.declared.Event.{Event}
-use Rattle.event.specs.declared.Outcome.{Outcome}
-use Rattle.buffer.proofs.Laws.{sets-append}
+use Rattle.buffer.specs.Put.{putOf, heldOf, endOf}
+use Rattle.buffer.specs.declared.Put.{Put}
+use Rattle.buffer.proofs.Laws.{sets-append, end-there, held-there}
 use Rattle.trace.specs.Trace.{eventAt}
 use Rattle.trace.specs.declared.Reading.{Reading}
 use Rattle.trace.specs.declared.Reading.the-variants as reading
-use Rattle.report.specs.Report.{entryText, malformedText}
+use Rattle.report.specs.Report.{malformedText}
+use Rattle.keeper.specs.Keeping.{outcomeOf}
 use Rattle.keeper.specs.declared.Keeper.{Keeper}
+use Rattle.keeper.specs.declared.Outcome.{Outcome}
 use Rattle.keeper.specs.declared.Keeper.the-variants.{Off}
-use Rattle.player.specs.Played.{steppedOf, playedFrom, playedOf}
-use Rattle.player.proofs.PlayedLaws.{run-end, run-wrong, run-event}
+use Rattle.player.specs.Played.{playedFrom, playedOf}
+use Rattle.player.proofs.PlayedLaws.{entryBy, run-end, run-wrong, run-event}
 
 -- ---- a text that grows in a buffer: `full` is what is to be written, of which the first `out` bytes of d are there, and `rest` is left.
 -- d is d0 with that much written.
@@ -67,41 +70,48 @@ module _ (s d0 d : List ℕ) (at out line : ℕ) (c : Keeper) (inv : playedOf s 
       is-wrong : playedFrom (length s - at) s at line c ≡ malformedText (line + i) ++ []
       is-wrong = run-wrong s at line c h q x ∙ sym (append-nil (malformedText (line + i)))
 
-      pub wrong-room : out + length (malformedText (line + i)) ≤ length d
+      wrong-room : out + length (malformedText (line + i)) ≤ length d
       wrong-room = grow-room (playedOf s) d0 d (playedFrom (length s - at) s at line c) out inv held same room within (malformedText (line + i)) [] is-wrong
 
-      wrong-end : {d′ : List ℕ} {o : ℕ} → o ≡ out + length (malformedText (line + i)) → d′ ≡ sets d out (malformedText (line + i)) → (o ≡ length (playedOf s)) × (d′ ≡ sets d0 0 (playedOf s))
-      wrong-end {d′} {o} ho hd =
+      wrong-end : (out + length (malformedText (line + i)) ≡ length (playedOf s)) × (sets d out (malformedText (line + i)) ≡ sets d0 0 (playedOf s))
+      wrong-end =
           let w = malformedText (line + i) in
           let f = grow-inv (playedOf s) d0 d (playedFrom (length s - at) s at line c) out inv held same room within w [] is-wrong in
           let g = grow-held (playedOf s) d0 d (playedFrom (length s - at) s at line c) out inv held same room within w [] is-wrong in
-          rw (ho, hd) (grow-end (playedOf s) d0 (sets d out w) [] (out + length w) f g (length-sets d out w ∙ same) room (rw (length-sets d out w) wrong-room) refl)
+          grow-end (playedOf s) d0 (sets d out w) [] (out + length w) f g (length-sets d out w ∙ same) room (rw (length-sets d out w) wrong-room) refl
 
-      pub wrong-end-at : {o : ℕ} → o ≡ out + length (malformedText (line + i)) → o ≡ length (playedOf s)
-      wrong-end-at ho = wrong-end ho refl .0
+      pub wrong-end-at : {p : Put} {o : ℕ} → p ≡ putOf d out (malformedText (line + i)) → o ≡ endOf p out → o ≡ length (playedOf s)
+      wrong-end-at hp ho = end-there d (malformedText (line + i)) out wrong-room out hp ho ∙ wrong-end .0
 
-      pub wrong-end-held : {d′ : List ℕ} → d′ ≡ sets d out (malformedText (line + i)) → d′ ≡ sets d0 0 (playedOf s)
-      wrong-end-held hd = wrong-end refl hd .1
+      pub wrong-end-held : {d′ : List ℕ} → d′ ≡ heldOf d out (malformedText (line + i)) → d′ ≡ sets d0 0 (playedOf s)
+      wrong-end-held hd = held-there d (malformedText (line + i)) out wrong-room hd ∙ wrong-end .1
 
-    module _ {e : Event} {next : ℕ} (x : r ≡ reading.Event e next) {o : Outcome} (ho : o ≡ steppedOf c e .outcome) where
-      is-event : playedFrom (length s - at) s at line c ≡ entryText o ++ playedFrom (length s - next) s next (line + 4) (steppedOf c e .keeper)
-      is-event = run-event s at line c h q x ∙ ap (λ (k : Outcome). entryText k ++ playedFrom (length s - next) s next (line + 4) (steppedOf c e .keeper)) (sym ho)
+    module _ {e : Event} {next : ℕ} (x : r ≡ reading.Event e next) {o : Outcome} (ho : o ≡ outcomeOf c e) where
+      is-event : playedFrom (length s - at) s at line c ≡ entryBy o ++ playedFrom (length s - next) s next (line + 4) (o .keeper)
+      is-event = run-event s at line c h q x ho
 
-      pub event-room : out + length (entryText o) ≤ length d
-      event-room = grow-room (playedOf s) d0 d (playedFrom (length s - at) s at line c) out inv held same room within (entryText o) (playedFrom (length s - next) s next (line + 4) (steppedOf c e .keeper)) is-event
+      event-room : out + length (entryBy o) ≤ length d
+      event-room = grow-room (playedOf s) d0 d (playedFrom (length s - at) s at line c) out inv held same room within (entryBy o) (playedFrom (length s - next) s next (line + 4) (o .keeper)) is-event
 
-      module _ {d′ : List ℕ} {out′ : ℕ} {c′ : Keeper} (hc : c′ ≡ steppedOf c e .keeper) (hn : out′ ≡ out + length (entryText o)) (hd : d′ ≡ sets d out (entryText o)) where
-        pub event-inv : playedOf s ≡ take out′ d′ ++ playedFrom (length s - next) s next (line + 4) c′
-        event-inv = rw (hc, hn, hd) (grow-inv (playedOf s) d0 d (playedFrom (length s - at) s at line c) out inv held same room within (entryText o) (playedFrom (length s - next) s next (line + 4) (steppedOf c e .keeper)) is-event)
-
-        pub event-held : d′ ≡ sets d0 0 (take out′ d′)
-        event-held = rw (hn, hd) (grow-held (playedOf s) d0 d (playedFrom (length s - at) s at line c) out inv held same room within (entryText o) (playedFrom (length s - next) s next (line + 4) (steppedOf c e .keeper)) is-event)
+      module _ {d′ : List ℕ} (hd : d′ ≡ heldOf d out (entryBy o)) where
+        there : d′ ≡ sets d out (entryBy o)
+        there = held-there d (entryBy o) out event-room hd
 
         pub event-same : length d′ ≡ length d0
-        event-same = ap length hd ∙ length-sets d out (entryText o) ∙ same
+        event-same = ap length there ∙ length-sets d out (entryBy o) ∙ same
 
-        pub event-within : out′ ≤ length d′
-        event-within = rw (hn, hd, length-sets) event-room
+        module _ {p : Put} {out′ : ℕ} (hp : p ≡ putOf d out (entryBy o)) (hn : out′ ≡ endOf p out) where
+          end : out′ ≡ out + length (entryBy o)
+          end = end-there d (entryBy o) out event-room out hp hn
+
+          pub event-inv : playedOf s ≡ take out′ d′ ++ playedFrom (length s - next) s next (line + 4) (o .keeper)
+          event-inv = rw (end, there) (grow-inv (playedOf s) d0 d (playedFrom (length s - at) s at line c) out inv held same room within (entryBy o) (playedFrom (length s - next) s next (line + 4) (o .keeper)) is-event)
+
+          pub event-held : d′ ≡ sets d0 0 (take out′ d′)
+          event-held = rw (end, there) (grow-held (playedOf s) d0 d (playedFrom (length s - at) s at line c) out inv held same room within (entryBy o) (playedFrom (length s - next) s next (line + 4) (o .keeper)) is-event)
+
+          pub event-within : out′ ≤ length d′
+          event-within = rw (end, there, length-sets) event-room
 
 pub write-start : (s d : List ℕ) {c : Keeper} → c ≡ Off → playedOf s ≡ take 0 d ++ playedFrom (length s - 0) s 0 1 c
 unfolding playedOf

@@ -9,15 +9,20 @@ use lib.Dec.{leb}
 use lib.ListN.{length, length-append}
 use borrow.Author.Tests.{le-leb, lt-leb}
 use Rattle.event.specs.declared.Event.{Event}
-use Rattle.event.specs.declared.Outcome.{Outcome}
 use Rattle.trace.specs.Trace.{eventAt}
 use Rattle.trace.specs.declared.Reading.{Reading}
 use Rattle.trace.specs.declared.Reading.the-variants as reading
 use Rattle.trace.proofs.Onward.{onward}
 use Rattle.report.specs.Report.{entryText, malformedText}
+use Rattle.keeper.specs.Keeping.{outcomeOf}
 use Rattle.keeper.specs.declared.Keeper.{Keeper}
+use Rattle.keeper.specs.declared.Outcome.{Outcome}
 use Rattle.keeper.specs.declared.Keeper.the-variants.{Off}
-use Rattle.player.specs.Played.{steppedOf, linesBy, playedFrom, playedOf}
+use Rattle.player.specs.Played.{linesBy, playedFrom, playedOf}
+
+-- the lines of an outcome
+abbrev pub entryBy : Outcome → List ℕ
+entryBy o = entryText (o .answer) (o .shown)
 
 -- ---- the fuel
 
@@ -36,7 +41,7 @@ run-fuel (suc k) (suc k′) s at line c h h′ = go (leb (length s) at) refl (ev
         → ((next : ℕ) (c′ : Keeper) → at < next → playedFrom k s next (line + 4) c′ ≡ playedFrom k′ s next (line + 4) c′)
         → cond t [] (linesBy r line c (λ next c′. playedFrom k s next (line + 4) c′)) ≡ cond t [] (linesBy r line c (λ next c′. playedFrom k′ s next (line + 4) c′))
     go true e r q ih = refl
-    go false e (reading.Event v next) q ih = ap (λ (l : List ℕ). entryText (steppedOf c v .outcome) ++ l) (ih next (steppedOf c v .keeper) (omega (arith, onward s at q refl)))
+    go false e (reading.Event v next) q ih = ap (λ (l : List ℕ). entryBy (outcomeOf c v) ++ l) (ih next (outcomeOf c v .keeper) (omega (arith, onward s at q refl)))
     go false e (reading.Wrong i st) q ih = refl
 
 module _ (s : List ℕ) (at line : ℕ) (c : Keeper) (h : at < length s) {r : Reading} (q : r ≡ eventAt s at) where
@@ -49,13 +54,13 @@ module _ (s : List ℕ) (at line : ℕ) (c : Keeper) (h : at < length s) {r : Re
       let k : length s - at ≡ suc (length s - at - 1) = omega arith in
       ap (λ (n : ℕ). playedFrom n s at line c) k ∙ one (length s - at - 1) ∙ ap (λ (x : Reading). linesBy x line c (λ next c′. playedFrom (length s - at - 1) s next (line + 4) c′)) e
 
-  pub run-event : {e : Event} {next : ℕ} → r ≡ reading.Event e next
-      → playedFrom (length s - at) s at line c ≡ entryText (steppedOf c e .outcome) ++ playedFrom (length s - next) s next (line + 4) (steppedOf c e .keeper)
-  run-event {e} {next} x =
+  pub run-event : {e : Event} {next : ℕ} {o : Outcome} → r ≡ reading.Event e next → o ≡ outcomeOf c e
+      → playedFrom (length s - at) s at line c ≡ entryBy o ++ playedFrom (length s - next) s next (line + 4) (o .keeper)
+  run-event {e} {next} x ho =
       let k : length s - at ≡ suc (length s - at - 1) = omega arith in
       let o = onward s at q x in
-      ap (λ (n : ℕ). playedFrom n s at line c) k ∙ one (length s - at - 1) ∙ ap (λ (x : Reading). linesBy x line c (λ next c′. playedFrom (length s - at - 1) s next (line + 4) c′)) x
-      ∙ ap (λ (l : List ℕ). entryText (steppedOf c e .outcome) ++ l) (run-fuel (length s - at - 1) (length s - next) s next (line + 4) (steppedOf c e .keeper) (omega arith) (omega arith))
+      rw ho (ap (λ (n : ℕ). playedFrom n s at line c) k ∙ one (length s - at - 1) ∙ ap (λ (x : Reading). linesBy x line c (λ next c′. playedFrom (length s - at - 1) s next (line + 4) c′)) x
+      ∙ ap (λ (l : List ℕ). entryBy (outcomeOf c e) ++ l) (run-fuel (length s - at - 1) (length s - next) s next (line + 4) (outcomeOf c e .keeper) (omega arith) (omega arith)))
 
 -- ---- the length, event by event: n is how long the report is before the text at `at`
 
@@ -70,14 +75,12 @@ module _ (s : List ℕ) (at line n : ℕ) (c : Keeper) (inv : length (playedOf s
       let z : length (playedFrom (length s - at) s at line c) ≡ length (malformedText (line + i)) = ap length (run-wrong s at line c h q e) in
       omega arith
 
-  pub len-event : {r : Reading} {e : Event} {next w : ℕ} {c′ : Keeper} {o : Outcome} → at < length s → r ≡ eventAt s at → r ≡ reading.Event e next
-      → c′ ≡ steppedOf c e .keeper → o ≡ steppedOf c e .outcome → w ≡ length (entryText o)
-      → length (playedOf s) ≡ n + w + length (playedFrom (length s - next) s next (line + 4) c′)
-  len-event {r} {e} {next} {w} {c′} {o} h q x hc ho hw =
-      let z : length (playedFrom (length s - at) s at line c) ≡ length (entryText (steppedOf c e .outcome)) + length (playedFrom (length s - next) s next (line + 4) (steppedOf c e .keeper)) =
-      ap length (run-event s at line c h q x) ∙ length-append (entryText (steppedOf c e .outcome)) (playedFrom (length s - next) s next (line + 4) (steppedOf c e .keeper)) in
-      let y : w ≡ length (entryText (steppedOf c e .outcome)) = hw ∙ ap (λ (k : Outcome). length (entryText k)) ho in
-      rw hc (omega arith)
+  pub len-event : {r : Reading} {e : Event} {next w : ℕ} {o : Outcome} → at < length s → r ≡ eventAt s at → r ≡ reading.Event e next
+      → o ≡ outcomeOf c e → w ≡ length (entryBy o) → length (playedOf s) ≡ n + w + length (playedFrom (length s - next) s next (line + 4) (o .keeper))
+  len-event {r} {e} {next} {w} {o} h q x ho hw =
+      let z : length (playedFrom (length s - at) s at line c) ≡ length (entryBy o) + length (playedFrom (length s - next) s next (line + 4) (o .keeper)) =
+      ap length (run-event s at line c h q x ho) ∙ length-append (entryBy o) (playedFrom (length s - next) s next (line + 4) (o .keeper)) in
+      omega arith
 
 pub len-start : (s : List ℕ) {c : Keeper} → c ≡ Off → length (playedOf s) ≡ 0 + length (playedFrom (length s - 0) s 0 1 c)
 unfolding playedOf

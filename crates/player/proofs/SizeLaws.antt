@@ -12,53 +12,30 @@ use Rattle.integer.specs.Bits.{flagOf}
 use Rattle.event.specs.Kinds.{isKind}
 use Rattle.event.specs.Answers.{numberOf, dataOf}
 use Rattle.event.specs.declared.Answer.{Answer}
-use Rattle.event.specs.declared.Answer.the-variants.{Done, NoPower, OtherAddress, NoSuchPart, NoSuchRegister, ReadOnly, OutOfRange, BadRangeCode, OddLocal, NotMonitoring, Malformed, WrongSize}
+use Rattle.event.specs.declared.Answer.the-variants.{Done, Refused}
 use Rattle.event.specs.declared.Event.{Event}
 use Rattle.event.specs.declared.Kind.the-variants as kind
+use Rattle.event.proofs.Laws.{number-small}
 use Rattle.part.specs.declared.FanId.the-variants.{One, Two}
 use Rattle.decimal.proofs.Laws.{decimal-width}
-use Rattle.judge.specs.Replies.{accepts}
 use Rattle.trace.specs.Trace.{eventAt}
 use Rattle.trace.specs.declared.Reading.{Reading}
 use Rattle.trace.specs.declared.Reading.the-variants as reading
 use Rattle.trace.proofs.Onward.{onward, wrong-place}
 use Rattle.report.specs.Report.{entryText}
-use Rattle.measure.proofs.Laws.{reply-length-as, pin-length, duty-length, entry-length, malformed-length}
-use Rattle.history.specs.Events.{History, taken, reply, pointer}
-use Rattle.history.specs.Duties.{thermAsserted}
-use Rattle.history.specs.Shows.{answer, intAsserted, faultAsserted, shown}
+use Rattle.measure.proofs.Laws.{reply-length, pin-length, duty-length, entry-length, malformed-length}
+use Rattle.rules.specs.Replies.{History, taken, replyTo, accepts}
+use Rattle.rules.specs.Stored.{pointer}
+use Rattle.rules.specs.Temperatures.{thermAsserted}
+use Rattle.rules.specs.Shows.{answer, intAsserted, faultAsserted, shown}
 use Rattle.history.proofs.BoundsLaws.{bounds}
-use Rattle.player.specs.Report.{outcome, lines, reportFrom, reportOf, Bounded}
+use Rattle.player.specs.Report.{lines, reportFrom, reportOf, Bounded}
 
 -- ---- the lines of an event
 
-number-small : (a : Answer) → numberOf a < 1000
-number-small (Done d) = omega arith
-number-small NoPower = omega arith
-number-small OtherAddress = omega arith
-number-small NoSuchPart = omega arith
-number-small NoSuchRegister = omega arith
-number-small ReadOnly = omega arith
-number-small OutOfRange = omega arith
-number-small BadRangeCode = omega arith
-number-small OddLocal = omega arith
-number-small NotMonitoring = omega arith
-number-small Malformed = omega arith
-number-small WrongSize = omega arith
-
 refusal-data : (a : Answer) → accepts a ≡ false → dataOf a ≡ 0
 refusal-data (Done d) e = absurd (true≢false e)
-refusal-data NoPower e = refl
-refusal-data OtherAddress e = refl
-refusal-data NoSuchPart e = refl
-refusal-data NoSuchRegister e = refl
-refusal-data ReadOnly e = refl
-refusal-data OutOfRange e = refl
-refusal-data BadRangeCode e = refl
-refusal-data OddLocal e = refl
-refusal-data NotMonitoring e = refl
-refusal-data Malformed e = refl
-refusal-data WrongSize e = refl
+refusal-data (Refused r) e = refl
 
 flag-small : (b : Bool) → flagOf b < 1000
 flag-small true = omega arith
@@ -67,11 +44,11 @@ flag-small false = omega arith
 data-small : (e : Event) (h : History) → dataOf (answer e h) < 1000
 unfolding answer
 data-small e h =
-    by-cases (accepts (reply e h))
-    (λ y. rw y (by-cases (isKind kind.Read e) (λ r. rw r (omega (arith, bounds (taken h) .byte (pointer (taken h))))) (λ r. rw r (omega arith))))
-    (λ n. rw n (omega (arith, refusal-data (reply e h) n)))
+    by-cases (accepts (replyTo e (taken h)))
+    (λ y. rw y (by-cases (isKind kind.Read e) (λ r. rw r (omega (arith, bounds h .byte (pointer (taken h))))) (λ r. rw r (omega arith))))
+    (λ n. rw n (omega (arith, refusal-data (replyTo e (taken h)) n)))
 
-entry-small : (e : Event) (h : History) → length (entryText (outcome e h)) ≤ 68
+entry-small : (e : Event) (h : History) → length (entryText (answer e h) (shown (taken (e ∷ h)))) ≤ 68
 unfolding shown
 entry-small e h =
     let a = answer e h in
@@ -81,9 +58,9 @@ entry-small e h =
     let int = decimal-width 2 (s .int) (flag-small (intAsserted (taken (e ∷ h)))) in
     let therm = decimal-width 2 (s .therm) (flag-small (thermAsserted (taken (e ∷ h)))) in
     let fault = decimal-width 2 (s .fault) (flag-small (faultAsserted (taken (e ∷ h)))) in
-    let duty1 = decimal-width 2 (s .duty1) (omega (arith, bounds (taken (e ∷ h)) .slots One)) in
-    let duty2 = decimal-width 2 (s .duty2) (omega (arith, bounds (taken (e ∷ h)) .slots Two)) in
-    omega (arith, entry-length (outcome e h), reply-length-as a refl refl, pin-length s, duty-length s)
+    let duty1 = decimal-width 2 (s .duty1) (omega (arith, bounds (e ∷ h) .slots One)) in
+    let duty2 = decimal-width 2 (s .duty2) (omega (arith, bounds (e ∷ h) .slots Two)) in
+    omega (arith, entry-length a s, reply-length a, pin-length s, duty-length s)
 
 -- ---- the report
 
@@ -102,7 +79,7 @@ module _ (s : List ℕ) (short : length s ≤ 65536) where
       go (reading.Event e next) q ih =
           let o = onward s at q refl in
           let rest = ih e next (omega (arith, o)) (o .1) in
-          omega (arith, o, rest, entry-small e h, length-append (entryText (outcome e h)) (reportFrom k s next (line + 4) (e ∷ h)))
+          omega (arith, o, rest, entry-small e h, length-append (entryText (answer e h) (shown (taken (e ∷ h)))) (reportFrom k s next (line + 4) (e ∷ h)))
       go (reading.Wrong i start) q ih =
           let w = wrong-place s at (sym q) in
           omega (arith, malformed-length (line + i), decimal-width 4 (line + i) (omega (arith, w .0)))

@@ -4,26 +4,16 @@ use mathlib.Core.List.{List, [], _++_}
 use mathlib.Core.Bool.{cond}
 use lib.Dec.{leb}
 use lib.ListN.{length}
-use Rattle.event.specs.declared.Event.{Event}
 use Rattle.trace.specs.Trace.{eventAt}
 use Rattle.trace.specs.declared.Reading.{Reading}
 use Rattle.trace.specs.declared.Reading.the-variants as reading
 use Rattle.report.specs.Report.{entryText, malformedText}
-use Rattle.keeper.specs.Keeping.{answerOf, shownBy}
+use Rattle.keeper.specs.Keeping.{outcomeOf}
 use Rattle.keeper.specs.declared.Keeper.{Keeper}
 use Rattle.keeper.specs.declared.Keeper.the-variants.{Off}
-use Rattle.player.specs.declared.Stepped.{Stepped}
-
--- one event: the next keeper, the answer, and the outputs after it
-abbrev pub steppedOf : Keeper → Event → Stepped
-steppedOf k e =
-    record {
-      keeper = (answerOf k e) .keeper;
-      outcome = record { answer = (answerOf k e) .answer; shown = shownBy ((answerOf k e) .keeper) };
-    }
 
 abbrev pub linesBy : Reading → (line : ℕ) → Keeper → (rest : ℕ → Keeper → List ℕ) → List ℕ
-linesBy (reading.Event e next) line k rest = entryText ((steppedOf k e) .outcome) ++ rest next ((steppedOf k e) .keeper)
+linesBy (reading.Event e next) line k rest = entryText ((outcomeOf k e) .answer) ((outcomeOf k e) .shown) ++ rest next ((outcomeOf k e) .keeper)
 linesBy (reading.Wrong i start) line k rest = malformedText (line + i)
 
 unfoldable pub playedFrom : (fuel : ℕ) → List ℕ → (at line : ℕ) → Keeper → List ℕ

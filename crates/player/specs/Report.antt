@@ -4,26 +4,20 @@ use mathlib.Core.List.{List, [], _∷_, _++_}
 use mathlib.Core.Bool.{cond}
 use lib.Dec.{ltb, leb}
 use lib.ListN.{length}
-use Rattle.event.specs.declared.Event.{Event}
-use Rattle.event.specs.declared.Outcome.{Outcome}
-use Rattle.event.specs.declared.Answer.the-variants.{WrongSize}
+use Rattle.event.specs.declared.Refusal.the-variants.{WrongSize}
 use Rattle.trace.specs.Trace.{eventAt}
 use Rattle.trace.specs.declared.Reading.{Reading}
 use Rattle.trace.specs.declared.Reading.the-variants as reading
-use Rattle.report.specs.Report.{entryText, malformedText, tooLongText}
-use Rattle.buffer.specs.Put.{putOf, heldOf}
+use Rattle.report.specs.Report.{entryText, answerText, malformedText}
+use Rattle.buffer.specs.Put.{putOf, heldOf, putNumber}
 use Rattle.buffer.specs.declared.Put.{Put}
 use Rattle.buffer.specs.declared.Put.the-variants.{Refused}
-use Rattle.history.specs.Events.{History, taken}
-use Rattle.history.specs.Shows.{answer, shown}
-
--- what the rules say of the next event: its answer, and the outputs after it
-abbrev pub outcome : Event → History → Outcome
-outcome e h = record { answer = answer e h; shown = shown (taken (e ∷ h)) }
+use Rattle.rules.specs.Replies.{History, taken}
+use Rattle.rules.specs.Shows.{answer, shown}
 
 -- what stands in the report for what was read: the event's lines and the rest, or the ending
 abbrev pub lines : Reading → (line : ℕ) → History → (rest : ℕ → History → List ℕ) → List ℕ
-lines (reading.Event e next) line h rest = entryText (outcome e h) ++ rest next (e ∷ h)
+lines (reading.Event e next) line h rest = entryText (answer e h) (shown (taken (e ∷ h))) ++ rest next (e ∷ h)
 lines (reading.Wrong i start) line h rest = malformedText (line + i)
 
 -- the report of the text from an index on, where line `line` starts, after the events h; k is at least the bytes left
@@ -47,6 +41,6 @@ replayAnswer text buffer = cond (ltb 65536 (length text)) (Refused WrongSize) (p
 unfoldable pub replayBuffer : (text buffer : List ℕ) → List ℕ
 replayBuffer text buffer = cond (ltb 65536 (length text)) buffer (heldOf buffer 0 (reportOf text))
 
--- what the program prints of a text: its report, or answer=11 alone
+-- what the program prints of a text: its report, or the number of the refusal alone
 unfoldable pub printedOf : (text : List ℕ) → List ℕ
-printedOf text = cond (ltb 65536 (length text)) tooLongText (reportOf text)
+printedOf text = cond (ltb 65536 (length text)) (answerText (putNumber (Refused WrongSize))) (reportOf text)

@@ -12,7 +12,8 @@ use Rattle.integer.specs.declared.Ranged.the-variants.{In, Out}
 use Rattle.reading.specs.Reading.{byteOf, remainderOf}
 use Rattle.reading.specs.Limits.{tminEdgeOf, hysteresisOf}
 use Rattle.reading.proofs.Laws.{lossless}
-use Rattle.reading.specs.Faithful.{degrees, hysteresis, Faithful}
+use Rattle.rules.specs.Temperatures.{wholeByte, remainder, degrees, hysteresis}
+use Rattle.reading.specs.Faithful.{Faithful}
 
 -- z is n - k
 unfoldable Lifted : (k n : ℕ) → ℤ → Type 0
@@ -120,18 +121,30 @@ module _ (t : ℤ) (r : ℕ) (e : eighthsOf t ≡ In r) (z : ℤ) (base : ℕ) (
       (shift 40 1024 r t (lift-reading t r e .0))
       (times-eight 133 base (z -ℤ pos 5) (less-five 128 base z at))
 
-  held-is : (on : Bool) → hysteresisOf on (8 * base) r ≡ hysteresis on z t
-  held-is on = rw (above, far-beneath)
+  hysteresis-is : (on : Bool) → hysteresisOf on (8 * base) r ≡ hysteresis on z t
+  hysteresis-is on = rw (above, far-beneath)
+
+-- a reading's byte and remainder
+whole-is : (t : ℤ) (r : ℕ) → Lifted 1024 r t → r < 2048 → byteOf r ≡ wholeByte t
+unfolding Lifted
+whole-is (pos n) r p h = omega arith
+whole-is (negsuc n) r p h = omega arith
+
+rest-is : (t : ℤ) (r : ℕ) → Lifted 1024 r t → remainderOf r ≡ remainder t
+unfolding Lifted
+rest-is (pos n) r p = omega arith
+rest-is (negsuc n) r p = omega arith
 
 pub faithful : (t : ℤ) (r : ℕ) → eighthsOf t ≡ In r → Faithful t r
 faithful t r e =
     record {
-      small = omega arith;
-      split = lifted-one 1024 r t _ (lift-reading t r e .0) whole;
-      latch = λ on limit h. held-is t r e (degrees limit) _ (lift-byte limit h) on;
+      whole = whole-is t r (lift-reading t r e .0) (lift-reading t r e .1);
+      rest = rest-is t r (lift-reading t r e .0);
+      split = lifted-one 1024 r t _ (lift-reading t r e .0) made;
+      latch = λ on limit h. hysteresis-is t r e (degrees limit) _ (lift-byte limit h) on;
       high = λ limit h. above t r e (degrees limit) _ (lift-byte limit h);
       low = λ limit h. beneath t r e (degrees limit) _ (lift-byte limit h);
-      flag = λ on tmin. ap (λ (k : ℕ). hysteresisOf on k r) (edge-is tmin) ∙ held-is t r e (pos tmin) (128 + tmin) (plain tmin) on;
+      flag = λ on tmin. ap (λ (k : ℕ). hysteresisOf on k r) (edge-is tmin) ∙ hysteresis-is t r e (pos tmin) (128 + tmin) (plain tmin) on;
     }
   where
     plain : (tmin : ℕ) → Lifted 128 (128 + tmin) (pos tmin)
@@ -140,7 +153,7 @@ faithful t r e =
     edge-is : (tmin : ℕ) → tminEdgeOf tmin ≡ 8 * (128 + tmin)
     edge-is tmin = omega arith
 
-    whole : Lifted 1024 r ((pos 8 *ℤ degrees (byteOf r)) +ℤ pos (remainderOf r))
-    whole =
+    made : Lifted 1024 r ((pos 8 *ℤ degrees (byteOf r)) +ℤ pos (remainderOf r))
+    made =
         move 1024 (8 * ((byteOf r + 128) % 256) + remainderOf r) 1024 r _ refl (lossless .reading r (lift-reading t r e .1))
         (more (remainderOf r) 1024 (8 * ((byteOf r + 128) % 256)) _ (times-eight 128 ((byteOf r + 128) % 256) (degrees (byteOf r)) (lift-byte (byteOf r) (omega arith))))

@@ -1,10 +1,14 @@
--- Readings and bytes turn into each other without loss. Assumes nothing.
-use Prim.Native.Nat.{ℕ, _*_, _<_}
-use mathlib.Core.Path.{_≡_}
+-- Readings and bytes turn into each other without loss; what the proofs of the functions cite. Assumes nothing.
+use Prim.Native.Nat.{ℕ, _*_, _<_, _≤_}
+use mathlib.Core.Path.{_≡_, ap, _∙_}
+use mathlib.Core.Bool.{Bool, cond}
 use native.Mathlib.Omega.{arith}
+use lib.Dec.{ltb}
+use borrow.Author.Tests.{lt-ltb, le-ltb}
 use Rattle.part.specs.declared.ChannelId.{ChannelId}
 use Rattle.part.specs.declared.ChannelId.the-variants.{Local, Remote1, Remote2}
 use Rattle.reading.specs.Reading.{extendedOf, remainderIn}
+use Rattle.reading.specs.Limits.{edgeOf, hysteresisOf, latchedOf}
 use Rattle.reading.specs.Faithful.{chosen, Lossless}
 
 remainders :
@@ -23,3 +27,17 @@ lossless =
       remainders = remainders;
       extended = λ b h. omega arith;
     }
+
+-- two tests in a row, by the one that applies
+module _ (a b c d : ℕ) (x y z : Bool) where
+  pub first-applies : a < b → x ≡ cond (ltb a b) x (cond (ltb c d) y z)
+  first-applies h = simp (lt-ltb a b h)
+
+  pub second-applies : b ≤ a → c < d → y ≡ cond (ltb a b) x (cond (ltb c d) y z)
+  second-applies h k = simp (le-ltb a b h, lt-ltb c d k)
+
+  pub neither-applies : b ≤ a → d ≤ c → z ≡ cond (ltb a b) x (cond (ltb c d) y z)
+  neither-applies h k = simp (le-ltb a b h, le-ltb c d k)
+
+pub latched-is : {edge : ℕ} {r : Bool} (on : Bool) (limit reading : ℕ) → edge ≡ edgeOf limit → r ≡ hysteresisOf on edge reading → r ≡ latchedOf on limit reading
+latched-is on limit reading e h = h ∙ ap (λ (n : ℕ). hysteresisOf on n reading) e

@@ -1,33 +1,26 @@
--- The definitions beside this file in document 01's own numbers: t in eighths from -1024 to 1023, limits in signed degrees.
-use Prim.Native.Nat.{ℕ, _+_, _-_, _*_, _<_}
+-- What is held with 1024 added stands for t: byte, remainder and comparisons are those of the rules.
+use Prim.Native.Nat.{ℕ, _+_, _*_, _<_}
 use mathlib.Core.Path.{_≡_}
-use mathlib.Core.Bool.{Bool, true, false, cond}
-use lib.Dec.{ltb}
-use lib.IntN.{ℤ, pos, negsuc, _+ℤ_, _-ℤ_, _*ℤ_}
+use mathlib.Core.Bool.{Bool}
+use lib.IntN.{ℤ, pos, _+ℤ_, _*ℤ_}
 use lib.Signed.{ltZ}
 use Rattle.part.specs.declared.ChannelId.{ChannelId}
 use Rattle.part.specs.declared.ChannelId.the-variants.{Local, Remote1, Remote2}
+use Rattle.rules.specs.Temperatures.{wholeByte, remainder, degrees, hysteresis}
 use Rattle.reading.specs.Reading.{byteOf, remainderOf, readingOf, extendedOf, remainderIn}
-use Rattle.reading.specs.Limits.{latchedOf, runningOf, overOf, underOf}
-
--- the number of a byte in two's complement
-abbrev pub degrees : ℕ → ℤ
-degrees byte = cond (ltb byte 128) (pos byte) (negsuc (255 - byte))
-
--- on above 8 limit, off below 8(limit - 5), else kept
-abbrev pub hysteresis : Bool → (limit t : ℤ) → Bool
-hysteresis on limit t = cond (ltZ (pos 8 *ℤ limit) t) true (cond (ltZ t (pos 8 *ℤ (limit -ℤ pos 5))) false on)
+use Rattle.reading.specs.Limits.{latchedOf, runningOf, isHigh, isLow}
 
 -- What is held as `reading` stands for t.
 pub record Faithful (t : ℤ) (reading : ℕ) : Type 0 where
-  -- temperatures 1: t is eight times the byte's number, and the remainder
-  pub small : remainderOf reading < 8
+  -- temperatures 1: the whole part and the remainder, of which t is made
+  pub whole : byteOf reading ≡ wholeByte t
+  pub rest : remainderOf reading ≡ remainder t
   pub split : t ≡ (pos 8 *ℤ degrees (byteOf reading)) +ℤ pos (remainderOf reading)
   -- temperatures 2, for every limit byte
   pub latch : (on : Bool) (limit : ℕ) → limit < 256 → latchedOf on limit reading ≡ hysteresis on (degrees limit) t
   -- temperatures 3
-  pub high : (limit : ℕ) → limit < 256 → overOf limit reading ≡ ltZ (pos 8 *ℤ degrees limit) t
-  pub low : (limit : ℕ) → limit < 256 → underOf limit reading ≡ ltZ t (pos 8 *ℤ degrees limit)
+  pub high : (limit : ℕ) → limit < 256 → isHigh limit reading ≡ ltZ (pos 8 *ℤ degrees limit) t
+  pub low : (limit : ℕ) → limit < 256 → isLow limit reading ≡ ltZ t (pos 8 *ℤ degrees limit)
   -- duty 1, for every Tmin
   pub flag : (on : Bool) (tmin : ℕ) → runningOf on tmin reading ≡ hysteresis on (pos tmin) t
 

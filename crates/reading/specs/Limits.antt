@@ -1,5 +1,5 @@
--- Document 01, "Temperatures, latches and cards", rules 2 and 3, and "Duty in slots", rule 1.
--- Readings have 1024 added, and so have the edges that they are compared with; `Faithful` says the same in signed numbers.
+-- The comparisons of a reading that is held with 1024 added, and so are the edges that it is compared with.
+-- `Faithful` holds them to the rules, which are in signed numbers.
 use Prim.Native.Nat.{ℕ, _+_, _*_, _%_}
 use mathlib.Core.Bool.{Bool, true, false, cond}
 use lib.Dec.{ltb}
@@ -16,17 +16,17 @@ tminEdgeOf tmin = 8 * tmin + 1024
 abbrev pub hysteresisOf : Bool → (edge reading : ℕ) → Bool
 hysteresisOf on edge reading = cond (ltb edge reading) true (cond (ltb (reading + 40) edge) false on)
 
--- temperatures 2: the latch turns on if t > 8L, off if t < 8(L - 5)
+-- temperatures 2: the latch
 abbrev pub latchedOf : Bool → (limit reading : ℕ) → Bool
 latchedOf on limit reading = hysteresisOf on (edgeOf limit) reading
 
--- duty 1: the run flag turns on if t > 8 Tmin, off if t < 8(Tmin - 5)
+-- duty 1: the run flag
 abbrev pub runningOf : Bool → (tmin reading : ℕ) → Bool
 runningOf on tmin reading = hysteresisOf on (tminEdgeOf tmin) reading
 
--- temperatures 3: t > 8 high, t < 8 low
-abbrev pub overOf : (limit reading : ℕ) → Bool
-overOf limit reading = ltb (edgeOf limit) reading
+-- temperatures 3: above the high limit, below the low one
+abbrev pub isHigh : (limit reading : ℕ) → Bool
+isHigh limit reading = ltb (edgeOf limit) reading
 
-abbrev pub underOf : (limit reading : ℕ) → Bool
-underOf limit reading = ltb reading (edgeOf limit)
+abbrev pub isLow : (limit reading : ℕ) → Bool
+isLow limit reading = ltb reading (edgeOf limit)

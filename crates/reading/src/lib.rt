@@ -4,7 +4,7 @@ use part::ChannelId;
 ghost use mathlib.Core.Path.{_≡_};
 ghost use Prim.Native.Nat.{_+_, _*_};
 ghost use Rattle.reading.specs.Reading.{byteOf, remainderOf, readingOf, extendedOf, remainderIn};
-ghost use Rattle.reading.specs.Limits.{edgeOf, hysteresisOf, latchedOf, runningOf, overOf, underOf};
+ghost use Rattle.reading.specs.Limits.{edgeOf, hysteresisOf, latchedOf, runningOf, isHigh, isLow};
 
 // ---- readings and bytes
 
@@ -54,7 +54,7 @@ fn edge(limit: u8) -> u32
 }
 
 // On above the edge, off more than five degrees below it, else as it was.
-fn held(on: bool, edge: u32, reading: u16) -> bool
+fn hysteresis(on: bool, edge: u32, reading: u16) -> bool
     ensures { λ r. ⌜ r ≡ hysteresisOf on edge reading ⌝ }
 {
     if edge < reading as u32 {
@@ -70,24 +70,24 @@ fn held(on: bool, edge: u32, reading: u16) -> bool
 pub fn latched(on: bool, limit: u8, reading: u16) -> bool
     ensures { λ r. ⌜ r ≡ latchedOf on limit reading ⌝ }
 {
-    held(on, edge(limit), reading)
+    hysteresis(on, edge(limit), reading)
 }
 
 // A channel's run flag after a reading; Tmin in degrees.
 pub fn running(on: bool, tmin: u8, reading: u16) -> bool
     ensures { λ r. ⌜ r ≡ runningOf on tmin reading ⌝ }
 {
-    held(on, 8 * tmin as u32 + 1024, reading)
+    hysteresis(on, 8 * tmin as u32 + 1024, reading)
 }
 
-pub fn over(limit: u8, reading: u16) -> bool
-    ensures { λ r. ⌜ r ≡ overOf limit reading ⌝ }
+pub fn is_high(limit: u8, reading: u16) -> bool
+    ensures { λ r. ⌜ r ≡ isHigh limit reading ⌝ }
 {
     edge(limit) < reading as u32
 }
 
-pub fn under(limit: u8, reading: u16) -> bool
-    ensures { λ r. ⌜ r ≡ underOf limit reading ⌝ }
+pub fn is_low(limit: u8, reading: u16) -> bool
+    ensures { λ r. ⌜ r ≡ isLow limit reading ⌝ }
 {
     (reading as u32) < edge(limit)
 }

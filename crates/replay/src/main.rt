@@ -6,7 +6,6 @@ ghost use Prim.Native.Nat.{_≤_};
 ghost use lib.ListN.{length};
 ghost use lib.Seq.{sets};
 ghost use Rattle.io.specs.Counts.{Counts};
-ghost use Rattle.report.specs.Report.{tooLongText};
 ghost use Rattle.player.specs.Report.{printedOf};
 
 // One byte more than a text may have.
@@ -23,19 +22,6 @@ fn report_buffer() -> [u8; 1114138]
     [0; 1114138]
 }
 
-// The ending of a text that is too long, and its length.
-fn too_long(report: &mut [u8]) -> usize
-    requires { ⌜ 1114138 ≤ length (now report) ⌝ }
-    ensures { λ r. ⌜ r ≡ length tooLongText ⌝ }
-    ensures { λ _. ⌜ now (report .exit) ≡ sets (now (report .entry)) 0 tooLongText ⌝ }
-{
-    let put = report::put_too_long(report, 0);
-    match put {
-        Put::End(end) => end,
-        Put::Refused(_) => 0,
-    }
-}
-
 // What is to be printed, in the buffer, and its length: it always fits.
 fn printed(text: &[u8], report: &mut [u8]) -> usize
     requires { ⌜ 1114138 ≤ length (now report) ⌝ }
@@ -46,7 +32,7 @@ fn printed(text: &[u8], report: &mut [u8]) -> usize
     let put = player::replay(text, report);
     match put {
         Put::End(end) => end,
-        Put::Refused(_) => too_long(report),
+        Put::Refused(_) => buffer::end_of(report::put_number(buffer::number_of(put), report, 0), 0),
     }
 }
 

@@ -1,15 +1,15 @@
-// The report into a lent buffer: the seven lines of an event, and the endings of malformed and of too long text.
+// The report into a lent buffer: the seven lines of an event, the ending of malformed text, the number of a refusal.
 // A text is put together aside and then put whole, or refused with 11.
 use buffer::Put;
 use event::Answer;
-use event::Outcome;
+use event::Refusal;
 use event::Shown;
 ghost use mathlib.Core.Path.{_≡_};
 ghost use Prim.Native.Nat.{_+_, _≤_};
 ghost use lib.ListN.{length};
 ghost use lib.Seq.{sets};
 ghost use Rattle.buffer.specs.Put.{putOf, heldOf};
-ghost use Rattle.report.specs.Report.{fieldText, replyText, pinText, dutyText, entryText, malformedText, tooLongText};
+ghost use Rattle.report.specs.Report.{fieldText, answerText, replyText, pinText, dutyText, entryText, malformedText};
 
 // A line at an index of a short text, and the index after it.
 fn field(name: &[u8], v: u32, text: &mut [u8], at: usize) -> usize
@@ -26,7 +26,7 @@ fn field(name: &[u8], v: u32, text: &mut [u8], at: usize) -> usize
 
 // answer= and data=, at the start of a text; then the pins, then the duties.
 fn reply(a: Answer, text: &mut [u8]) -> usize
-    ensures { λ r. ⌜ r ≡ length (replyText a) ⌝ }
+    ensures { λ r. ⌜ (r ≡ length (replyText a)) × (r ≤ 20) ⌝ }
     ensures { λ _. ⌜ now (text .exit) ≡ sets (now (text .entry)) 0 (replyText a) ⌝ }
 {
     let e = field(b"answer=", event::number_of(a) as u32, text, 0);
@@ -35,7 +35,7 @@ fn reply(a: Answer, text: &mut [u8]) -> usize
 
 fn pins(s: Shown, text: &mut [u8], at: usize) -> usize
     requires { ⌜ at ≤ 1024 ⌝ }
-    ensures { λ r. ⌜ r ≡ at + length (pinText s) ⌝ }
+    ensures { λ r. ⌜ (r ≡ at + length (pinText s)) × (r ≤ at + 28) ⌝ }
     ensures { λ _. ⌜ now (text .exit) ≡ sets (now (text .entry)) at (pinText s) ⌝ }
 {
     let a = field(b"int=", s.int as u32, text, at);
@@ -45,7 +45,7 @@ fn pins(s: Shown, text: &mut [u8], at: usize) -> usize
 
 fn duties(s: Shown, text: &mut [u8], at: usize) -> usize
     requires { ⌜ at ≤ 1024 ⌝ }
-    ensures { λ r. ⌜ r ≡ at + length (dutyText s) ⌝ }
+    ensures { λ r. ⌜ (r ≡ at + length (dutyText s)) × (r ≤ at + 20) ⌝ }
     ensures { λ _. ⌜ now (text .exit) ≡ sets (now (text .entry)) at (dutyText s) ⌝ }
 {
     let a = field(b"duty1=", s.duty1 as u32, text, at);
@@ -53,12 +53,10 @@ fn duties(s: Shown, text: &mut [u8], at: usize) -> usize
 }
 
 // The seven lines of an event.
-pub fn put_entry(o: Outcome, buf: &mut [u8], at: usize) -> Put
-    ensures { λ r. ⌜ r ≡ putOf (now (buf .entry)) at (entryText o) ⌝ }
-    ensures { λ _. ⌜ now (buf .exit) ≡ heldOf (now (buf .entry)) at (entryText o) ⌝ }
+pub fn put_entry(answer: Answer, shown: Shown, buf: &mut [u8], at: usize) -> Put
+    ensures { λ r. ⌜ r ≡ putOf (now (buf .entry)) at (entryText answer shown) ⌝ }
+    ensures { λ _. ⌜ now (buf .exit) ≡ heldOf (now (buf .entry)) at (entryText answer shown) ⌝ }
 {
-    let answer = o.answer;
-    let shown = o.shown;
     let mut text = [0u8; 68];
     let a = reply(answer, &mut text);
     let b = pins(shown, &mut text, a);
@@ -71,21 +69,19 @@ pub fn put_malformed(line: u32, buf: &mut [u8], at: usize) -> Put
     ensures { λ r. ⌜ r ≡ putOf (now (buf .entry)) at (malformedText line) ⌝ }
     ensures { λ _. ⌜ now (buf .exit) ≡ heldOf (now (buf .entry)) at (malformedText line) ⌝ }
 {
+    let number = event::refusal_number(Refusal::Malformed);
     let mut text = [0u8; 32];
-    let a = field(
-        b"answer=",
-        event::number_of(Answer::Malformed) as u32,
-        &mut text,
-        0,
-    );
+    let a = field(b"answer=", number as u32, &mut text, 0);
     let e = field(b"line=", line, &mut text, a);
     buffer::put_whole(&text[0..e], buf, at)
 }
 
-// The whole report of text that is too long.
-pub fn put_too_long(buf: &mut [u8], at: usize) -> Put
-    ensures { λ r. ⌜ r ≡ putOf (now (buf .entry)) at tooLongText ⌝ }
-    ensures { λ _. ⌜ now (buf .exit) ≡ heldOf (now (buf .entry)) at tooLongText ⌝ }
+// The line of an answer's number: the whole report of a text that is refused.
+pub fn put_number(number: u8, buf: &mut [u8], at: usize) -> Put
+    ensures { λ r. ⌜ r ≡ putOf (now (buf .entry)) at (answerText number) ⌝ }
+    ensures { λ _. ⌜ now (buf .exit) ≡ heldOf (now (buf .entry)) at (answerText number) ⌝ }
 {
-    buffer::put_whole(b"answer=11\n", buf, at)
+    let mut text = [0u8; 12];
+    let e = field(b"answer=", number as u32, &mut text, 0);
+    buffer::put_whole(&text[0..e], buf, at)
 }

@@ -1,29 +1,30 @@
-// The replay and the engine for programs in C and Rust: slices in, a number out.
-// A slice is passed as pointer and number of elements; neither pointer may be null, and the two may not overlap:
+// The replay, the engine, the register image and the rewriter for programs in C and Rust: slices in, a number out.
+// A slice is passed as pointer and number of elements; no pointer may be null, and two of one call may not overlap:
 // size_t snezhulka_replay(const uint8_t *text, size_t text_len, uint8_t *report, size_t report_len);
 // size_t snezhulka_steps(const int32_t *numbers, size_t count, uint8_t *outcomes, size_t outcomes_len);
-use buffer::Put;
+// size_t snezhulka_image(const int32_t *numbers, size_t count, uint8_t *image, size_t image_len);
+// size_t snezhulka_rewrite(const uint8_t *text, size_t text_len, uint8_t *copy, size_t copy_len);
 ghost use mathlib.Core.Path.{_≡_};
+ghost use lib.ListN.{length, take};
+ghost use lib.Seq.{sets};
+ghost use Rattle.event.specs.Answers.{numberOf};
+ghost use Rattle.buffer.specs.Put.{endOf};
 ghost use Rattle.player.specs.Report.{replayAnswer, replayBuffer};
 ghost use Rattle.stepper.specs.Steps.{stepsAnswer, stepsBuffer};
-ghost use Rattle.snezhulka.specs.Exported.{endOf};
+ghost use Rattle.imager.specs.Image.{imageAfter, imageLeft};
+ghost use Rattle.rewriter.specs.Rewritten.{copyEnd};
+ghost use Rattle.snezhulka.specs.Exported.{noLength};
 
-fn end_of(put: Put) -> usize
-    ensures { λ r. ⌜ r ≡ endOf put ⌝ }
-{
-    match put {
-        Put::End(end) => end,
-        Put::Refused(_) => 18446744073709551615,
-    }
-}
+// What a refusal is told by: the largest number.
+const REFUSED: usize = 18446744073709551615;
 
 // How long the report is; or the largest number, where text or buffer has the wrong size, and the buffer as it was.
 #[no_mangle]
 pub extern "C" fn snezhulka_replay(text: &[u8], report: &mut [u8]) -> usize
-    ensures { λ r. ⌜ r ≡ endOf (replayAnswer (now (text .entry)) (now (report .entry))) ⌝ }
+    ensures { λ r. ⌜ r ≡ endOf (replayAnswer (now (text .entry)) (now (report .entry))) noLength ⌝ }
     ensures { λ _. ⌜ now (report .exit) ≡ replayBuffer (now (text .entry)) (now (report .entry)) ⌝ }
 {
-    end_of(player::replay(text, report))
+    buffer::end_of(player::replay(text, report), REFUSED)
 }
 
 // Events as four numbers each: the kind from 0 (power) to 8 (period) in the order of the trace format, who, arg, val.
@@ -31,8 +32,28 @@ pub extern "C" fn snezhulka_replay(text: &[u8], report: &mut [u8]) -> usize
 // largest number, where the numbers are no whole events or the buffer is too short for all, and the buffer as it was.
 #[no_mangle]
 pub extern "C" fn snezhulka_steps(numbers: &[i32], outcomes: &mut [u8]) -> usize
-    ensures { λ r. ⌜ r ≡ endOf (stepsAnswer (now (numbers .entry)) (now (outcomes .entry))) ⌝ }
+    ensures { λ r. ⌜ r ≡ endOf (stepsAnswer (now (numbers .entry)) (now (outcomes .entry))) noLength ⌝ }
     ensures { λ _. ⌜ now (outcomes .exit) ≡ stepsBuffer (now (numbers .entry)) (now (outcomes .entry)) ⌝ }
 {
-    end_of(stepper::steps(numbers, outcomes))
+    buffer::end_of(stepper::steps(numbers, outcomes), REFUSED)
+}
+
+// The register image after the same events, in the first 64 bytes of the buffer: its reply number, 0, 1 or 11; 10 where
+// an event has another kind, 11 where the numbers are no whole events. But for 0 the buffer stays as it was.
+#[no_mangle]
+pub extern "C" fn snezhulka_image(numbers: &[i32], image: &mut [u8]) -> usize
+    ensures { λ r. ⌜ r ≡ numberOf (imageAfter (now (numbers .entry)) (now (image .entry))) ⌝ }
+    ensures { λ _. ⌜ now (image .exit) ≡ imageLeft (now (numbers .entry)) (now (image .entry)) ⌝ }
+{
+    event::number_of(imager::image(numbers, image)) as usize
+}
+
+// A trace read event by event and written again: how many bytes, up to the first event that is not well-formed or does
+// not fit. They are the text's own, since an event has one text only.
+#[no_mangle]
+pub extern "C" fn snezhulka_rewrite(text: &[u8], copy: &mut [u8]) -> usize
+    ensures { λ r. ⌜ r ≡ copyEnd (now (text .entry)) (length (now (copy .entry))) ⌝ }
+    ensures { λ _. ⌜ now (copy .exit) ≡ sets (now (copy .entry)) 0 (take (copyEnd (now (text .entry)) (length (now (copy .entry)))) (now (text .entry))) ⌝ }
+{
+    rewriter::rewrite(text, copy)
 }

@@ -2,73 +2,79 @@
 use Prim.Native.Nat.{ℕ, zero, suc, _+_, _*_, _/_, _%_}
 use mathlib.Core.List.{List, [], _∷_, _++_}
 use mathlib.Core.Bool.{Bool, true, false, cond, _&&_}
-use lib.Dec.{eqb, leb}
+use lib.Dec.{eqb, ltb, leb}
 use lib.IntN.{ℤ, pos}
 use lib.ListN.{length, getD}
 use lib.Seq.{sets}
 use Rattle.integer.specs.Range.{belowOf}
 use Rattle.integer.specs.declared.Ranged.{Ranged}
 use Rattle.integer.specs.declared.Ranged.the-variants.{In, Out}
-use Rattle.event.specs.Kinds.{kinds, eventOf}
+use Rattle.event.specs.Kinds.{kinds, kindAt, eventOf}
 use Rattle.event.specs.Answers.{numberOf, dataOf}
-use Rattle.event.specs.declared.Kind.the-variants as kind
 use Rattle.event.specs.declared.Numbers.{Numbers}
-use Rattle.event.specs.declared.Outcome.{Outcome}
-use Rattle.event.specs.declared.Answer.the-variants.{WrongSize}
+use Rattle.event.specs.declared.Answer.{Answer}
+use Rattle.event.specs.declared.Shown.{Shown}
+use Rattle.event.specs.declared.Refusal.the-variants.{WrongSize}
 use Rattle.buffer.specs.declared.Put.{Put}
 use Rattle.buffer.specs.declared.Put.the-variants.{End, Refused}
-use Rattle.history.specs.Events.{History}
-use Rattle.player.specs.Report.{outcome}
-use Rattle.stepper.specs.declared.Taken.{Taken}
-use Rattle.stepper.specs.declared.Taken.the-variants.{Event, Nothing}
+use Rattle.rules.specs.Replies.{History, taken}
+use Rattle.rules.specs.Shows.{answer, shown}
+use Rattle.stepper.specs.declared.Parsed.{Parsed}
+use Rattle.stepper.specs.declared.Parsed.the-variants.{Event, Nothing}
 
--- an event of the kind at a place of the table, which has nine
-abbrev pub eventBy : Ranged → Numbers → Taken
-eventBy (In place) n = Event (eventOf (getD kinds place kind.Period) n)
+-- ---- events
+
+-- an event of the kind at a place of the table
+abbrev pub eventBy : Ranged → Numbers → Parsed
+eventBy (In place) n = Event (eventOf (kindAt place) n)
 eventBy Out n = Nothing
 
-unfoldable pub eventFrom : (kind : ℤ) → Numbers → Taken
-eventFrom v n = eventBy (belowOf v 9) n
+unfoldable pub eventFrom : (kind : ℤ) → Numbers → Parsed
+eventFrom v n = eventBy (belowOf v (length kinds)) n
 
 -- event number i of a list of numbers
-unfoldable pub eventAt : List ℤ → (i : ℕ) → Taken
-eventAt s i =
-    eventFrom (getD s (4 * i) (pos 0)) (record { who = getD s (4 * i + 1) (pos 0); arg = getD s (4 * i + 2) (pos 0); val = getD s (4 * i + 3) (pos 0) })
+unfoldable pub eventNumbered : List ℤ → (i : ℕ) → Parsed
+eventNumbered s i =
+    cond (ltb i (length s / 4))
+    (eventFrom (getD s (4 * i) (pos 0)) (record { who = getD s (4 * i + 1) (pos 0); arg = getD s (4 * i + 2) (pos 0); val = getD s (4 * i + 3) (pos 0) }))
+    Nothing
 
-abbrev pub isEvent : Taken → Bool
+abbrev pub isEvent : Parsed → Bool
 isEvent (Event e) = true
 isEvent Nothing = false
 
--- how many events are taken, of those before i and at most `left` more: up to the first that is none
-unfoldable pub takenFrom : (left i : ℕ) → List ℤ → ℕ
-takenFrom zero i s = i
-takenFrom (suc left) i s = cond (isEvent (eventAt s i)) (takenFrom left (suc i) s) i
+-- how many events there are, of those before i and at most `left` more: up to the first that is none
+unfoldable pub eventCountFrom : (left i : ℕ) → List ℤ → ℕ
+eventCountFrom zero i s = i
+eventCountFrom (suc left) i s = cond (isEvent (eventNumbered s i)) (eventCountFrom left (suc i) s) i
 
-unfoldable pub taken : List ℤ → ℕ
-taken s = takenFrom (length s / 4) 0 s
+unfoldable pub eventCount : List ℤ → ℕ
+eventCount s = eventCountFrom (length s / 4) 0 s
 
-abbrev pub andBefore : Taken → History → History
+abbrev pub andBefore : Parsed → History → History
 andBefore (Event e) h = e ∷ h
 andBefore Nothing h = h
 
 -- the first n events
 unfoldable pub firstEvents : (n : ℕ) → List ℤ → History
 firstEvents zero s = []
-firstEvents (suc i) s = andBefore (eventAt s i) (firstEvents i s)
+firstEvents (suc i) s = andBefore (eventNumbered s i) (firstEvents i s)
+
+-- ---- outcomes
 
 -- answer, data, INT, THERM, FAN_FAULT, both duties
-abbrev pub outcomeBytes : Outcome → List ℕ
-outcomeBytes o =
-    numberOf (o .answer) ∷ dataOf (o .answer) ∷ o .shown .int ∷ o .shown .therm ∷ o .shown .fault ∷ o .shown .duty1 ∷ o .shown .duty2 ∷ []
+abbrev pub outcomeBytes : Answer → Shown → List ℕ
+outcomeBytes a s = numberOf a ∷ dataOf a ∷ s .int ∷ s .therm ∷ s .fault ∷ s .duty1 ∷ s .duty2 ∷ []
 
-abbrev pub bytesOf : Taken → History → List ℕ
-bytesOf (Event e) h = outcomeBytes (outcome e h)
-bytesOf Nothing h = []
+-- what the rules say of the next event
+abbrev pub outcomeBytesAt : Parsed → History → List ℕ
+outcomeBytesAt (Event e) h = outcomeBytes (answer e h) (shown (taken (e ∷ h)))
+outcomeBytesAt Nothing h = []
 
 -- the outcomes of the first n events
 unfoldable pub outcomesOf : (n : ℕ) → List ℤ → List ℕ
 outcomesOf zero s = []
-outcomesOf (suc i) s = outcomesOf i s ++ bytesOf (eventAt s i) (firstEvents i s)
+outcomesOf (suc i) s = outcomesOf i s ++ outcomeBytesAt (eventNumbered s i) (firstEvents i s)
 
 -- the numbers are whole events, and there is room for the outcomes of all
 abbrev pub wellSized : (s : List ℤ) (d : List ℕ) → Bool
@@ -76,7 +82,7 @@ wellSized s d = eqb (length s % 4) 0 && leb (7 * (length s / 4)) (length d)
 
 -- where the outcomes end in the buffer d; or 11, and the buffer as it was
 unfoldable pub stepsAnswer : (s : List ℤ) (d : List ℕ) → Put
-stepsAnswer s d = cond (wellSized s d) (End (7 * taken s)) (Refused WrongSize)
+stepsAnswer s d = cond (wellSized s d) (End (7 * eventCount s)) (Refused WrongSize)
 
 unfoldable pub stepsBuffer : (s : List ℤ) (d : List ℕ) → List ℕ
-stepsBuffer s d = cond (wellSized s d) (sets d 0 (outcomesOf (taken s) s)) d
+stepsBuffer s d = cond (wellSized s d) (sets d 0 (outcomesOf (eventCount s) s)) d

@@ -3,58 +3,42 @@
 use buffer::Put;
 use event::Answer;
 use event::Event;
-use event::Kind;
 use event::Numbers;
-use event::Outcome;
+use event::Refusal;
+use event::Shown;
 use integer::Ranged;
 use keeper::Keeper;
 ghost use mathlib.Core.Path.{_≡_};
-ghost use Prim.Native.Nat.{_+_, _*_, _≤_};
-ghost use lib.ListN.{length, getD};
+ghost use Prim.Native.Nat.{_*_, _≤_};
+ghost use lib.ListN.{length};
 ghost use lib.Seq.{sets};
-ghost use Rattle.event.specs.Kinds.{kinds};
-ghost use Rattle.player.specs.Played.{steppedOf};
-ghost use Rattle.stepper.specs.Steps.{eventFrom, eventAt, takenFrom, outcomeBytes, outcomesOf, stepsAnswer, stepsBuffer};
+ghost use Rattle.stepper.specs.Steps.{eventFrom, eventNumbered, eventCountFrom, outcomeBytes, outcomesOf, stepsAnswer, stepsBuffer};
 
 // Four numbers as an event; or nothing, where the first is the place of no kind.
-pub enum Taken {
+pub enum Parsed {
     Event(Event),
     Nothing,
 }
 
-// The kind at a place of the table; the last one at every place past it.
-fn kind_at(place: u16) -> Kind
-    ensures { λ r. ⌜ r ≡ getD kinds place Kind.Period ⌝ }
-{
-    match place {
-        0 => Kind::Power,
-        1 => Kind::Write,
-        2 => Kind::Point,
-        3 => Kind::Read,
-        4 => Kind::Sample,
-        5 => Kind::Tach,
-        6 => Kind::Pin,
-        7 => Kind::Clock,
-        _ => Kind::Period,
-    }
-}
-
-fn event_from(kind: i32, n: Numbers) -> Taken
+fn event_from(kind: i32, n: Numbers) -> Parsed
     ensures { λ r. ⌜ r ≡ eventFrom kind n ⌝ }
 {
-    match integer::below(kind, 9) {
+    match integer::below(kind, event::KIND_COUNT) {
         Ranged::In(place) => {
-            let e = event::event_of(kind_at(place), n);
-            Taken::Event(e)
+            let e = event::event_of(event::kind_at(place), n);
+            Parsed::Event(e)
         }
-        Ranged::Out => Taken::Nothing,
+        Ranged::Out => Parsed::Nothing,
     }
 }
 
-fn event_at(numbers: &[i32], i: usize) -> Taken
-    requires { ⌜ 4 * i + 4 ≤ length (now numbers) ⌝ }
-    ensures { λ r. ⌜ r ≡ eventAt (now (numbers .entry)) i ⌝ }
+// Event number i of a list of numbers; nothing, where the list has no four numbers there.
+pub fn event_numbered(numbers: &[i32], i: usize) -> Parsed
+    ensures { λ r. ⌜ r ≡ eventNumbered (now (numbers .entry)) i ⌝ }
 {
+    if numbers.len() / 4 <= i {
+        return Parsed::Nothing;
+    }
     let at = 4 * i;
     let kind = numbers[at];
     let who = numbers[at + 1];
@@ -63,11 +47,9 @@ fn event_at(numbers: &[i32], i: usize) -> Taken
     event_from(kind, Numbers { who, arg, val })
 }
 
-fn put_outcome(o: Outcome, outcomes: &mut [u8], at: usize)
-    ensures { λ _. ⌜ now (outcomes .exit) ≡ sets (now (outcomes .entry)) at (outcomeBytes o) ⌝ }
+fn put_outcome(answer: Answer, shown: Shown, outcomes: &mut [u8], at: usize)
+    ensures { λ _. ⌜ now (outcomes .exit) ≡ sets (now (outcomes .entry)) at (outcomeBytes answer shown) ⌝ }
 {
-    let answer = o.answer;
-    let shown = o.shown;
     let bytes = [
         event::number_of(answer),
         event::data_of(answer),
@@ -80,34 +62,26 @@ fn put_outcome(o: Outcome, outcomes: &mut [u8], at: usize)
     buffer::put_bytes(&bytes, outcomes, at);
 }
 
-// The next keeper, and the outcome of its event put at an index.
-fn step_into(k: Keeper, e: Event, outcomes: &mut [u8], at: usize) -> Keeper
-    ensures { λ r. ⌜ r ≡ (steppedOf k e) .keeper ⌝ }
-    ensures { λ _. ⌜ now (outcomes .exit) ≡ sets (now (outcomes .entry)) at (outcomeBytes ((steppedOf k e) .outcome)) ⌝ }
-{
-    let s = player::step(k, e);
-    let o = s.outcome;
-    put_outcome(o, outcomes, at);
-    s.keeper
-}
-
 // So many events of a list, up to the first that is none: how many, and their outcomes in the buffer.
 fn step_all(numbers: &[i32], outcomes: &mut [u8], end: usize) -> usize
-    requires { ⌜ 4 * end ≤ length (now numbers) ⌝ }
     requires { ⌜ 7 * end ≤ length (now outcomes) ⌝ }
-    ensures { λ r. ⌜ (r ≡ takenFrom end 0 (now (numbers .entry))) × (r ≤ end) ⌝ }
-    ensures { λ _. ⌜ now (outcomes .exit) ≡ sets (now (outcomes .entry)) 0 (outcomesOf (takenFrom end 0 (now (numbers .entry))) (now (numbers .entry))) ⌝ }
+    ensures { λ r. ⌜ (r ≡ eventCountFrom end 0 (now (numbers .entry))) × (r ≤ end) ⌝ }
+    ensures { λ _. ⌜ now (outcomes .exit) ≡ sets (now (outcomes .entry)) 0 (outcomesOf (eventCountFrom end 0 (now (numbers .entry))) (now (numbers .entry))) ⌝ }
 {
     let mut k = Keeper::off();
     let mut i: usize = 0;
     while i < end {
-        let taken = event_at(numbers, i);
-        match taken {
-            Taken::Event(e) => {
-                k = step_into(k, e, outcomes, 7 * i);
+        let parsed = event_numbered(numbers, i);
+        match parsed {
+            Parsed::Event(e) => {
+                let o = keeper::step(k, e);
+                let answer = o.answer;
+                let shown = o.shown;
+                put_outcome(answer, shown, outcomes, 7 * i);
+                k = o.keeper;
                 i += 1;
             }
-            Taken::Nothing => {
+            Parsed::Nothing => {
                 return i;
             }
         }
@@ -122,11 +96,11 @@ pub fn steps(numbers: &[i32], outcomes: &mut [u8]) -> Put
     ensures { λ _. ⌜ now (outcomes .exit) ≡ stepsBuffer (now (numbers .entry)) (now (outcomes .entry)) ⌝ }
 {
     if 0 < numbers.len() % 4 {
-        return Put::Refused(Answer::WrongSize);
+        return Put::Refused(Refusal::WrongSize);
     }
     let end = numbers.len() / 4;
     if outcomes.len() / 7 < end {
-        return Put::Refused(Answer::WrongSize);
+        return Put::Refused(Refusal::WrongSize);
     }
     Put::End(7 * step_all(numbers, outcomes, end))
 }

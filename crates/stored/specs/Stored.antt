@@ -1,129 +1,126 @@
--- The bytes that the chip stores, by the addresses of the register table.
+-- The bytes that the chip stores, after an event.
 use Prim.Native.Nat.{ℕ}
 use mathlib.Core.Bool.{Bool, cond, not, _&&_, _||_}
+use mathlib.Core.List.{List, [], _∷_}
 use lib.Dec.{eqb}
-use Rattle.integer.specs.Bits.{bitOf, mergedOf}
-use Rattle.register.specs.Table.{maskAt, resetAt}
+use Rattle.integer.specs.Bits.{mergedOf}
 use Rattle.part.specs.declared.ChannelId.{ChannelId}
 use Rattle.part.specs.declared.ChannelId.the-variants.{Local, Remote1, Remote2}
 use Rattle.part.specs.declared.FanId.{FanId}
 use Rattle.part.specs.declared.FanId.the-variants.{One, Two}
 use Rattle.event.specs.declared.Kind.the-variants as kind
+use Rattle.rules.specs.Registers.{config1, config2, test, speedAt, offsetAt, tachLimitAt, highLimitAt, lowLimitAt, thermLimitAt, characteristicsAt, speeds, filter, controlAt, device, company, behaviour, maskAt, resetAt}
 use Rattle.input.specs.declared.Input.{Input}
-use Rattle.input.specs.Inputs.{isA, measures, restarts, writes}
+use Rattle.input.specs.Inputs.{isA, byteIn, isCount, isWrite, isRestart}
 use Rattle.stored.specs.declared.ChannelRegisters.{ChannelRegisters}
 use Rattle.stored.specs.declared.FanRegisters.{FanRegisters}
 use Rattle.stored.specs.declared.Registers.{Registers}
 
--- addresses of the registers that come in twos and threes (Table 17 of 000)
-abbrev pub offsetAt : ChannelId → ℕ
-offsetAt Local = 0x0D
-offsetAt Remote1 = 0x0E
-offsetAt Remote2 = 0x0F
-
-abbrev pub highAt : ChannelId → ℕ
-highAt Local = 0x14
-highAt Remote1 = 0x18
-highAt Remote2 = 0x1C
-
-abbrev pub lowAt : ChannelId → ℕ
-lowAt Local = 0x15
-lowAt Remote1 = 0x19
-lowAt Remote2 = 0x1D
-
-abbrev pub thermAt : ChannelId → ℕ
-thermAt Local = 0x16
-thermAt Remote1 = 0x1A
-thermAt Remote2 = 0x1E
-
-abbrev pub controlAt : ChannelId → ℕ
-controlAt Local = 0x24
-controlAt Remote1 = 0x25
-controlAt Remote2 = 0x26
-
-abbrev pub speedAt : FanId → ℕ
-speedAt One = 0x08
-speedAt Two = 0x09
-
-abbrev pub tachLimitAt : FanId → ℕ
-tachLimitAt One = 0x10
-tachLimitAt Two = 0x11
-
-abbrev pub characteristicsAt : FanId → ℕ
-characteristicsAt One = 0x20
-characteristicsAt Two = 0x21
-
-abbrev pub statusAt : FanId → ℕ
-statusAt One = 0x02
-statusAt Two = 0x03
-
 -- a count for the speed register at an address
-abbrev pub counts : (address : ℕ) → Input → Bool
-counts address r = (eqb address (speedAt One) && measures One r) || (eqb address (speedAt Two) && measures Two r)
+abbrev pub isCountAt : (address : ℕ) → Input → Bool
+isCountAt a i = (eqb a (speedAt One) && isCount One i) || (eqb a (speedAt Two) && isCount Two i)
 
--- the byte stored at an address: its reset byte; what is written, read-only bits keeping theirs (below the reply table); a fan's count (tach counts)
+-- the byte stored at an address: its byte after power; what is written, read-only bits keeping theirs; a fan's count
 unfoldable pub storedAfter : (address : ℕ) → Input → ℕ → ℕ
-storedAfter address r was =
-    cond (restarts r) (resetAt address)
-    (cond (writes address r) (mergedOf (maskAt address) was (r .val))
-    (cond (counts address r) (r .val) was))
+storedAfter a i was =
+    cond (isRestart i) (resetAt a)
+    (cond (isWrite a i) (mergedOf (maskAt a) was (byteIn i))
+    (cond (isCountAt a i) (byteIn i) was))
 
 -- an event that stores nothing
-abbrev pub idle : Input → Bool
-idle r = not (restarts r || (isA kind.Write r || isA kind.Tach r))
+abbrev pub storesNothing : Input → Bool
+storesNothing i = not (isRestart i || (isA kind.Write i || isA kind.Tach i))
 
 unfoldable pub channelRegistersAfter : ChannelId → Input → ChannelRegisters → ChannelRegisters
-channelRegistersAfter c r l =
+channelRegistersAfter c i l =
     record {
-      offset = storedAfter (offsetAt c) r (l .offset);
-      high = storedAfter (highAt c) r (l .high);
-      low = storedAfter (lowAt c) r (l .low);
-      therm = storedAfter (thermAt c) r (l .therm);
-      control = storedAfter (controlAt c) r (l .control);
+      offset = storedAfter (offsetAt c) i (l .offset);
+      high = storedAfter (highLimitAt c) i (l .high);
+      low = storedAfter (lowLimitAt c) i (l .low);
+      therm = storedAfter (thermLimitAt c) i (l .therm);
+      control = storedAfter (controlAt c) i (l .control);
     }
 
 unfoldable pub fanRegistersAfter : FanId → Input → FanRegisters → FanRegisters
-fanRegistersAfter f r b =
+fanRegistersAfter f i b =
     record {
-      speed = storedAfter (speedAt f) r (b .speed);
-      limit = storedAfter (tachLimitAt f) r (b .limit);
-      characteristics = storedAfter (characteristicsAt f) r (b .characteristics);
+      speed = storedAfter (speedAt f) i (b .speed);
+      limit = storedAfter (tachLimitAt f) i (b .limit);
+      characteristics = storedAfter (characteristicsAt f) i (b .characteristics);
     }
 
 unfoldable pub registersAfter : Input → Registers → Registers
-registersAfter r s =
+registersAfter i s =
     record {
-      config1 = storedAfter 0x00 r (s .config1);
-      config2 = storedAfter 0x01 r (s .config2);
-      test = storedAfter 0x07 r (s .test);
-      speeds = storedAfter 0x22 r (s .speeds);
-      filter = storedAfter 0x23 r (s .filter);
-      behaviour = storedAfter 0x3F r (s .behaviour);
-      local = channelRegistersAfter Local r (s .local);
-      remote1 = channelRegistersAfter Remote1 r (s .remote1);
-      remote2 = channelRegistersAfter Remote2 r (s .remote2);
-      fan1 = fanRegistersAfter One r (s .fan1);
-      fan2 = fanRegistersAfter Two r (s .fan2);
+      config1 = storedAfter config1 i (s .config1);
+      config2 = storedAfter config2 i (s .config2);
+      test = storedAfter test i (s .test);
+      speeds = storedAfter speeds i (s .speeds);
+      filter = storedAfter filter i (s .filter);
+      behaviour = storedAfter behaviour i (s .behaviour);
+      local = channelRegistersAfter Local i (s .local);
+      remote1 = channelRegistersAfter Remote1 i (s .remote1);
+      remote2 = channelRegistersAfter Remote2 i (s .remote2);
+      fan1 = fanRegistersAfter One i (s .fan1);
+      fan2 = fanRegistersAfter Two i (s .fan2);
     }
 
--- bits of 0x00 and 0x01 (Tables 18 and 19)
-abbrev pub monitors : Registers → Bool
-monitors s = bitOf (s .config1) 0
+-- a channel's, a fan's own
+abbrev pub channelRegistersOf : Registers → ChannelId → ChannelRegisters
+channelRegistersOf s Local = s .local
+channelRegistersOf s Remote1 = s .remote1
+channelRegistersOf s Remote2 = s .remote2
 
-abbrev pub outputEnabled : FanId → ℕ → Bool
-outputEnabled One config2 = bitOf config2 0
-outputEnabled Two config2 = bitOf config2 1
+abbrev pub fanRegistersOf : Registers → FanId → FanRegisters
+fanRegistersOf s One = s .fan1
+fanRegistersOf s Two = s .fan2
 
-abbrev pub tachEnabled : FanId → ℕ → Bool
-tachEnabled One config2 = bitOf config2 2
-tachEnabled Two config2 = bitOf config2 3
+-- ---- the stored byte at an address, 0 where none is stored
 
-abbrev pub channelEnabled : ChannelId → ℕ → Bool
-channelEnabled Local config2 = bitOf config2 4
-channelEnabled Remote1 config2 = bitOf config2 5
-channelEnabled Remote2 config2 = bitOf config2 6
+pub record Cell : Type 0 where
+  pub address : ℕ
+  pub byte : ℕ
 
--- bits of 0x23 (Table 26)
-abbrev pub filterEnabled : FanId → ℕ → Bool
-filterEnabled One filter = bitOf filter 0
-filterEnabled Two filter = bitOf filter 1
+abbrev pub cell : (address byte : ℕ) → Cell
+cell address byte = record { address = address; byte = byte }
+
+-- in the order of the table; 0x3D and 0x3E never change
+unfoldable pub cells : Registers → List Cell
+cells s =
+    cell config1 (s .config1)
+    ∷ cell config2 (s .config2)
+    ∷ cell test (s .test)
+    ∷ cell (speedAt One) (s .fan1 .speed)
+    ∷ cell (speedAt Two) (s .fan2 .speed)
+    ∷ cell (offsetAt Local) (s .local .offset)
+    ∷ cell (offsetAt Remote1) (s .remote1 .offset)
+    ∷ cell (offsetAt Remote2) (s .remote2 .offset)
+    ∷ cell (tachLimitAt One) (s .fan1 .limit)
+    ∷ cell (tachLimitAt Two) (s .fan2 .limit)
+    ∷ cell (highLimitAt Local) (s .local .high)
+    ∷ cell (lowLimitAt Local) (s .local .low)
+    ∷ cell (thermLimitAt Local) (s .local .therm)
+    ∷ cell (highLimitAt Remote1) (s .remote1 .high)
+    ∷ cell (lowLimitAt Remote1) (s .remote1 .low)
+    ∷ cell (thermLimitAt Remote1) (s .remote1 .therm)
+    ∷ cell (highLimitAt Remote2) (s .remote2 .high)
+    ∷ cell (lowLimitAt Remote2) (s .remote2 .low)
+    ∷ cell (thermLimitAt Remote2) (s .remote2 .therm)
+    ∷ cell (characteristicsAt One) (s .fan1 .characteristics)
+    ∷ cell (characteristicsAt Two) (s .fan2 .characteristics)
+    ∷ cell speeds (s .speeds)
+    ∷ cell filter (s .filter)
+    ∷ cell (controlAt Local) (s .local .control)
+    ∷ cell (controlAt Remote1) (s .remote1 .control)
+    ∷ cell (controlAt Remote2) (s .remote2 .control)
+    ∷ cell device 0x31
+    ∷ cell company 0x41
+    ∷ cell behaviour (s .behaviour)
+    ∷ []
+
+unfoldable pub found : List Cell → (address : ℕ) → ℕ
+found [] a = 0
+found (c ∷ cs) a = cond (eqb a (c .address)) (c .byte) (found cs a)
+
+unfoldable pub storedIn : Registers → (address : ℕ) → ℕ
+storedIn s a = found (cells s) a

@@ -3,7 +3,7 @@
 use part::ChannelId;
 use part::FanId;
 ghost use mathlib.Core.Path.{_≡_};
-ghost use Rattle.stored.specs.Stored.{offsetAt, highAt, lowAt, thermAt, controlAt, tachLimitAt, characteristicsAt};
+ghost use Rattle.rules.specs.Registers.{speedAt, offsetAt, highLimitAt, lowLimitAt, thermLimitAt, controlAt, tachLimitAt, characteristicsAt};
 
 pub fn offset_at(c: ChannelId) -> u8
     ensures { λ r. ⌜ r ≡ offsetAt c ⌝ }
@@ -15,8 +15,8 @@ pub fn offset_at(c: ChannelId) -> u8
     }
 }
 
-pub fn high_at(c: ChannelId) -> u8
-    ensures { λ r. ⌜ r ≡ highAt c ⌝ }
+pub fn high_limit_at(c: ChannelId) -> u8
+    ensures { λ r. ⌜ r ≡ highLimitAt c ⌝ }
 {
     match c {
         ChannelId::Local => 0x14,
@@ -25,8 +25,8 @@ pub fn high_at(c: ChannelId) -> u8
     }
 }
 
-pub fn low_at(c: ChannelId) -> u8
-    ensures { λ r. ⌜ r ≡ lowAt c ⌝ }
+pub fn low_limit_at(c: ChannelId) -> u8
+    ensures { λ r. ⌜ r ≡ lowLimitAt c ⌝ }
 {
     match c {
         ChannelId::Local => 0x15,
@@ -35,8 +35,8 @@ pub fn low_at(c: ChannelId) -> u8
     }
 }
 
-pub fn therm_at(c: ChannelId) -> u8
-    ensures { λ r. ⌜ r ≡ thermAt c ⌝ }
+pub fn therm_limit_at(c: ChannelId) -> u8
+    ensures { λ r. ⌜ r ≡ thermLimitAt c ⌝ }
 {
     match c {
         ChannelId::Local => 0x16,
@@ -52,6 +52,15 @@ pub fn control_at(c: ChannelId) -> u8
         ChannelId::Local => 0x24,
         ChannelId::Remote1 => 0x25,
         ChannelId::Remote2 => 0x26,
+    }
+}
+
+pub fn speed_at(f: FanId) -> u8
+    ensures { λ r. ⌜ r ≡ speedAt f ⌝ }
+{
+    match f {
+        FanId::One => 0x08,
+        FanId::Two => 0x09,
     }
 }
 

@@ -1,13 +1,23 @@
-// The bytes that the chip stores, and what an accepted event makes of them.
+// The bytes that the chip stores, and what an event makes of them.
 // A byte is known by its address in the register table.
 mod addresses;
+mod cells;
+mod fields;
 
+pub use cells::channel_registers_of;
+pub use cells::fan_registers_of;
+pub use cells::stored_in;
 use event::Kind;
+pub use fields::channel_enabled;
+pub use fields::filter_enabled;
+pub use fields::output_enabled;
+pub use fields::tach_enabled;
 use input::Input;
 use part::ChannelId;
 use part::FanId;
 ghost use mathlib.Core.Path.{_≡_};
-ghost use Rattle.stored.specs.Stored.{speedAt, statusAt, counts, storedAfter, idle, channelRegistersAfter, fanRegistersAfter, registersAfter, outputEnabled, tachEnabled, channelEnabled, filterEnabled};
+ghost use Rattle.rules.specs.Registers.{statusAt};
+ghost use Rattle.stored.specs.Stored.{isCountAt, storedAfter, storesNothing, channelRegistersAfter, fanRegistersAfter, registersAfter};
 
 // The bytes of a channel's registers.
 pub struct ChannelRegisters {
@@ -39,17 +49,14 @@ pub struct Registers {
     pub fan2: FanRegisters,
 }
 
-// ---- addresses
-
-pub fn speed_at(f: FanId) -> u8
-    ensures { λ r. ⌜ r ≡ speedAt f ⌝ }
-{
-    match f {
-        FanId::One => 0x08,
-        FanId::Two => 0x09,
-    }
+// What moves a part: the event, the registers as they stand after it, the pointer as it stood before it.
+pub struct Context {
+    pub input: Input,
+    pub registers: Registers,
+    pub pointer: u8,
 }
 
+// The status register, by its fan.
 pub fn status_at(f: FanId) -> u8
     ensures { λ r. ⌜ r ≡ statusAt f ⌝ }
 {
@@ -61,109 +68,75 @@ pub fn status_at(f: FanId) -> u8
 
 // ---- bytes after an event
 
-fn is_count_at(address: u8, r: Input) -> bool
-    ensures { λ b. ⌜ b ≡ counts address r ⌝ }
+// A count for the speed register at an address.
+fn is_count_at(address: u8, i: Input) -> bool
+    ensures { λ b. ⌜ b ≡ isCountAt address i ⌝ }
 {
-    ((address == speed_at(FanId::One)) & input::is_count(FanId::One, r))
-        | ((address == speed_at(FanId::Two)) & input::is_count(FanId::Two, r))
+    ((address == addresses::speed_at(FanId::One)) & input::is_count(FanId::One, i))
+        | ((address == addresses::speed_at(FanId::Two)) & input::is_count(FanId::Two, i))
 }
 
 // The byte at an address.
-pub fn stored_after(address: u8, r: Input, was: u8) -> u8
-    ensures { λ b. ⌜ b ≡ storedAfter address r was ⌝ }
+fn stored_after(address: u8, i: Input, was: u8) -> u8
+    ensures { λ b. ⌜ b ≡ storedAfter address i was ⌝ }
 {
-    if input::is_restart(r) {
+    if input::is_restart(i) {
         return register::reset_at(address);
     }
-    if input::is_write(address, r) {
-        return integer::merged(register::mask_at(address), was, r.val);
+    if input::is_write(address, i) {
+        return integer::merged(register::mask_at(address), was, input::byte_in(i));
     }
-    if is_count_at(address, r) { r.val } else { was }
+    if is_count_at(address, i) {
+        input::byte_in(i)
+    } else {
+        was
+    }
 }
 
-fn channel_registers_after(c: ChannelId, r: Input, l: ChannelRegisters) -> ChannelRegisters
-    ensures { λ b. ⌜ b ≡ channelRegistersAfter c r l ⌝ }
+fn channel_registers_after(c: ChannelId, i: Input, l: ChannelRegisters) -> ChannelRegisters
+    ensures { λ b. ⌜ b ≡ channelRegistersAfter c i l ⌝ }
 {
     ChannelRegisters {
-        offset: stored_after(addresses::offset_at(c), r, l.offset),
-        high: stored_after(addresses::high_at(c), r, l.high),
-        low: stored_after(addresses::low_at(c), r, l.low),
-        therm: stored_after(addresses::therm_at(c), r, l.therm),
-        control: stored_after(addresses::control_at(c), r, l.control),
+        offset: stored_after(addresses::offset_at(c), i, l.offset),
+        high: stored_after(addresses::high_limit_at(c), i, l.high),
+        low: stored_after(addresses::low_limit_at(c), i, l.low),
+        therm: stored_after(addresses::therm_limit_at(c), i, l.therm),
+        control: stored_after(addresses::control_at(c), i, l.control),
     }
 }
 
-fn fan_registers_after(f: FanId, r: Input, b: FanRegisters) -> FanRegisters
-    ensures { λ d. ⌜ d ≡ fanRegistersAfter f r b ⌝ }
+fn fan_registers_after(f: FanId, i: Input, b: FanRegisters) -> FanRegisters
+    ensures { λ d. ⌜ d ≡ fanRegistersAfter f i b ⌝ }
 {
     FanRegisters {
-        speed: stored_after(speed_at(f), r, b.speed),
-        limit: stored_after(addresses::tach_limit_at(f), r, b.limit),
-        characteristics: stored_after(addresses::characteristics_at(f), r, b.characteristics),
+        speed: stored_after(addresses::speed_at(f), i, b.speed),
+        limit: stored_after(addresses::tach_limit_at(f), i, b.limit),
+        characteristics: stored_after(addresses::characteristics_at(f), i, b.characteristics),
     }
 }
 
 // An event that stores nothing: no start afresh, no write, no count.
-pub fn stores_nothing(r: Input) -> bool
-    ensures { λ b. ⌜ b ≡ idle r ⌝ }
+pub fn stores_nothing(i: Input) -> bool
+    ensures { λ b. ⌜ b ≡ storesNothing i ⌝ }
 {
-    !(input::is_restart(r) | (input::is_a(Kind::Write, r) | input::is_a(Kind::Tach, r)))
+    !(input::is_restart(i) | (input::is_a(Kind::Write, i) | input::is_a(Kind::Tach, i)))
 }
 
 // Every byte.
-pub fn registers_after(r: Input, s: Registers) -> Registers
-    ensures { λ b. ⌜ b ≡ registersAfter r s ⌝ }
+pub fn registers_after(i: Input, s: Registers) -> Registers
+    ensures { λ b. ⌜ b ≡ registersAfter i s ⌝ }
 {
     Registers {
-        config1: stored_after(0x00, r, s.config1),
-        config2: stored_after(0x01, r, s.config2),
-        test: stored_after(0x07, r, s.test),
-        speeds: stored_after(0x22, r, s.speeds),
-        filter: stored_after(0x23, r, s.filter),
-        behaviour: stored_after(0x3F, r, s.behaviour),
-        local: channel_registers_after(ChannelId::Local, r, s.local),
-        remote1: channel_registers_after(ChannelId::Remote1, r, s.remote1),
-        remote2: channel_registers_after(ChannelId::Remote2, r, s.remote2),
-        fan1: fan_registers_after(FanId::One, r, s.fan1),
-        fan2: fan_registers_after(FanId::Two, r, s.fan2),
-    }
-}
-
-// ---- enable bits
-
-pub fn output_enabled(f: FanId, config2: u8) -> bool
-    ensures { λ b. ⌜ b ≡ outputEnabled f config2 ⌝ }
-{
-    match f {
-        FanId::One => integer::bit(config2, 0),
-        FanId::Two => integer::bit(config2, 1),
-    }
-}
-
-pub fn tach_enabled(f: FanId, config2: u8) -> bool
-    ensures { λ b. ⌜ b ≡ tachEnabled f config2 ⌝ }
-{
-    match f {
-        FanId::One => integer::bit(config2, 2),
-        FanId::Two => integer::bit(config2, 3),
-    }
-}
-
-pub fn channel_enabled(c: ChannelId, config2: u8) -> bool
-    ensures { λ b. ⌜ b ≡ channelEnabled c config2 ⌝ }
-{
-    match c {
-        ChannelId::Local => integer::bit(config2, 4),
-        ChannelId::Remote1 => integer::bit(config2, 5),
-        ChannelId::Remote2 => integer::bit(config2, 6),
-    }
-}
-
-pub fn filter_enabled(f: FanId, filter: u8) -> bool
-    ensures { λ b. ⌜ b ≡ filterEnabled f filter ⌝ }
-{
-    match f {
-        FanId::One => integer::bit(filter, 0),
-        FanId::Two => integer::bit(filter, 1),
+        config1: stored_after(0x00, i, s.config1),
+        config2: stored_after(0x01, i, s.config2),
+        test: stored_after(0x07, i, s.test),
+        speeds: stored_after(0x22, i, s.speeds),
+        filter: stored_after(0x23, i, s.filter),
+        behaviour: stored_after(0x3F, i, s.behaviour),
+        local: channel_registers_after(ChannelId::Local, i, s.local),
+        remote1: channel_registers_after(ChannelId::Remote1, i, s.remote1),
+        remote2: channel_registers_after(ChannelId::Remote2, i, s.remote2),
+        fan1: fan_registers_after(FanId::One, i, s.fan1),
+        fan2: fan_registers_after(FanId::Two, i, s.fan2),
     }
 }

@@ -4,3 +4,4 @@ pub mod Numbers
 pub mod Events
 pub mod Onward
 pub mod RoundTrip
+pub mod Canonical

@@ -8,7 +8,8 @@ use lib.Dec.{ltb}
 use lib.ListN.{length, take, drop}
 use borrow.Author.Tests.{lt-ltb, le-ltb, ltb-true}
 use Rattle.line.specs.Line.{lineAt, endAt}
-use Rattle.line.proofs.Lines.{end-from, line-part}
+use Rattle.line.proofs.Lines.{end-from, line-part, ended-part}
+use Rattle.trace.specs.Trace.{ended}
 
 -- the line at an index, read by `of`; `by` adds the start of the next line
 abbrev pub lineAs : {A B : Type 0} → (ℕ → A → B) → B → (List ℕ → A) → List ℕ → ℕ → B
@@ -21,13 +22,14 @@ module _ {A B : Type 0} (by : ℕ → A → B) (wrong : B) (of : List ℕ → A)
   pub read-as : {e : ℕ} {a : A} → e ≡ endAt s at → e < length s → a ≡ of (take (e - at) (drop at s)) → lineAs by wrong of s at ≡ by (e + 1) a
   read-as {e} end h q = rw (q, line-part s at end, ← end, lt-ltb e (length s) h)
 
-  -- what holds of a wrong line, and of one that ends further on, within the text
-  pub either : (P : B → Type 0) → P wrong → ((next : ℕ) (a : A) → at < next → next ≤ length s → P (by next a)) → P (lineAs by wrong of s at)
+  -- what holds of a wrong line, and of one whose bytes stand up to the next line, within the text
+  pub either : (P : B → Type 0) → P wrong
+      → ((next : ℕ) (l : List ℕ) → at < next → next ≤ length s → take (next - at) (drop at s) ≡ ended l → P (by next (of l))) → P (lineAs by wrong of s at)
   either P bad good = go (ltb (endAt s at) (length s)) refl
     where
       go : (t : Bool) → ltb (endAt s at) (length s) ≡ t → P (cond t (by (endAt s at + 1) (of (lineAt s at))) wrong)
       go true h =
           let end : at ≤ endAt s at = end-from s at refl in
           let within : endAt s at < length s = ltb-true (endAt s at) (length s) h in
-          good (endAt s at + 1) (of (lineAt s at)) (omega arith) (omega arith)
+          good (endAt s at + 1) (lineAt s at) (omega arith) (omega arith) (ended-part s at refl within)
       go false h = bad

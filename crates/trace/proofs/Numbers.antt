@@ -17,25 +17,25 @@ use Rattle.decimal.specs.Decimal.{parseOf}
 use Rattle.line.specs.Line.{sameBytes, endAt}
 use Rattle.line.proofs.Bytes.{same-lengths}
 use Rattle.trace.specs.declared.Field.the-variants as field
-use Rattle.trace.specs.Trace.{valueOf, givenBy, numberLine}
+use Rattle.trace.specs.Trace.{numberNamed, givenBy, numberLine}
 use Rattle.trace.proofs.Lines.{unended, read-as}
 
 -- ---- a name and a decimal
 
 module _ (name l : List ℕ) where
-  pub value-short : length l < length name → Malformed ≡ valueOf name l
-  unfolding valueOf
+  pub value-short : length l < length name → Malformed ≡ numberNamed name l
+  unfolding numberNamed
   value-short h =
       let n : length (take (length name) l) ≡ length name → ⊥ = λ e. omega (arith, e, length-take (length name) l) in
       rw (← (same-lengths (take (length name) l) name n))
 
-  pub value-other : {r : Bool} → r ≡ sameBytes (take (length name - 0) (drop 0 l)) name → r ≡ false → Malformed ≡ valueOf name l
-  unfolding valueOf
+  pub value-other : {r : Bool} → r ≡ sameBytes (take (length name - 0) (drop 0 l)) name → r ≡ false → Malformed ≡ numberNamed name l
+  unfolding numberNamed
   value-other e h = rw (rw sub-zero at (sym e ∙ h))
 
   pub value-behind : {r : Bool} {d : Decimal} → r ≡ sameBytes (take (length name - 0) (drop 0 l)) name → r ≡ true
-      → d ≡ parseOf (take (length l - length name) (drop (length name) l)) → d ≡ valueOf name l
-  unfolding valueOf
+      → d ≡ parseOf (take (length l - length name) (drop (length name) l)) → d ≡ numberNamed name l
+  unfolding numberNamed
   value-behind e h q =
       rw (rw sub-zero at (sym e ∙ h), q, take-all (length l - length name) (drop (length name) l) (le-of-eq (length-drop (length name) l)))
 
@@ -44,15 +44,15 @@ module _ (name l : List ℕ) where
 module _ (name s : List ℕ) (at : ℕ) {e : ℕ} (end : e ≡ endAt s at) where
   pub number-unended : length s ≤ e → field.Wrong ≡ numberLine name s at
   unfolding numberLine
-  number-unended h = unended givenBy field.Wrong (valueOf name) s at end h
+  number-unended h = unended givenBy field.Wrong (numberNamed name) s at end h
 
-  read : {d : Decimal} → e < length s → d ≡ valueOf name (take (e - at) (drop at s)) → numberLine name s at ≡ givenBy (e + 1) d
+  read : {d : Decimal} → e < length s → d ≡ numberNamed name (take (e - at) (drop at s)) → numberLine name s at ≡ givenBy (e + 1) d
   unfolding numberLine
-  read h q = read-as givenBy field.Wrong (valueOf name) s at end h q
+  read h q = read-as givenBy field.Wrong (numberNamed name) s at end h q
 
-  pub number-given : {d : Decimal} {v : ℤ} → e < length s → d ≡ valueOf name (take (e - at) (drop at s)) → d ≡ Number v → SFits w32 v
+  pub number-given : {d : Decimal} {v : ℤ} → e < length s → d ≡ numberNamed name (take (e - at) (drop at s)) → d ≡ Number v → SFits w32 v
       → field.Number (toZ w32 (ofZ w32 v)) (e + 1) ≡ numberLine name s at
   number-given {v = v} h q k f = rw (read h q, k, toZ-ofZ w32 v f)
 
-  pub number-malformed : {d : Decimal} → e < length s → d ≡ valueOf name (take (e - at) (drop at s)) → d ≡ Malformed → field.Wrong ≡ numberLine name s at
+  pub number-malformed : {d : Decimal} → e < length s → d ≡ numberNamed name (take (e - at) (drop at s)) → d ≡ Malformed → field.Wrong ≡ numberLine name s at
   number-malformed h q k = rw (read h q, k)

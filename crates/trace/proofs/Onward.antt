@@ -18,7 +18,7 @@ use Rattle.trace.specs.declared.Field.the-variants as field
 use Rattle.trace.specs.declared.Reading.{Reading}
 use Rattle.trace.specs.declared.Reading.the-variants as reading
 use Rattle.trace.specs.Words.{whoName, argName, valName, kindNamed, namedBy, kindLine}
-use Rattle.trace.specs.Trace.{valueOf, givenBy, numberLine, afterVal, afterArg, afterWho, afterKind, eventAt}
+use Rattle.trace.specs.Trace.{numberNamed, givenBy, numberLine, afterVal, afterArg, afterWho, afterKind, eventAt}
 use Rattle.trace.proofs.Lines.{either}
 
 module _ (s : List ℕ) where
@@ -37,7 +37,7 @@ module _ (s : List ℕ) where
 
   after-number : (name : List ℕ) (at : ℕ) → AfterField at (numberLine name s at)
   unfolding numberLine
-  after-number name at = either givenBy field.Wrong (valueOf name) s at (AfterField at) tt given
+  after-number name at = either givenBy field.Wrong (numberNamed name) s at (AfterField at) tt (λ next l h h′ e. given next (numberNamed name l) h h′)
     where
       given : (next : ℕ) (d : Decimal) → at < next → next ≤ length s → AfterField at (givenBy next d)
       given next (Number z) h h′ = (h, h′)
@@ -45,7 +45,7 @@ module _ (s : List ℕ) where
 
   after-kind : (at : ℕ) → AfterNamed at (kindLine s at)
   unfolding kindLine
-  after-kind at = either namedBy named.Wrong kindNamed s at (AfterNamed at) tt given
+  after-kind at = either namedBy named.Wrong kindNamed s at (AfterNamed at) tt (λ next l h h′ e. given next (kindNamed l) h h′)
     where
       given : (next : ℕ) (w : Word) → at < next → next ≤ length s → AfterNamed at (namedBy next w)
       given next (Known k) h h′ = (h, h′)

@@ -3,6 +3,7 @@ use Prim.Native.Nat.{ℕ, _+_, _-_}
 use mathlib.Core.Path.{_≡_, refl, sym, ap, _∙_}
 use mathlib.Core.List.{List, [], _∷_, _++_, append-assoc}
 use native.Mathlib.Omega.{arith}
+use borrow.Author.Needs.{needs}
 use mir.Syntax.{w32}
 use mir.Val.{SFits}
 use lib.IntN.{ℤ}
@@ -14,11 +15,9 @@ use Rattle.decimal.specs.Decimal.{textOf}
 use Rattle.decimal.proofs.Clean.{Clean, clean-append, no-newline}
 use Rattle.decimal.proofs.RoundTrip as decimal
 use Rattle.event.specs.declared.Event.{Event}
-use Rattle.event.specs.declared.Event.the-variants as event
-use Rattle.event.specs.declared.Transfer.the-variants as transfer
 use Rattle.event.specs.declared.Kind.{Kind}
-use Rattle.event.specs.declared.Kind.the-variants as kind
-use Rattle.event.specs.Kinds.{kindOf, numbersOf, eventOf}
+use Rattle.event.specs.Kinds.{kindOf, numbersOf, kinds, kindAt}
+use Rattle.event.proofs.Laws.{Each, every-kind, event-back}
 use Rattle.line.specs.Line.{sameBytes, firstLine, lineAt, endAt}
 use Rattle.line.proofs.Bytes.{same-self}
 use Rattle.trace.specs.declared.Word.the-variants.{Known}
@@ -26,7 +25,7 @@ use Rattle.trace.specs.declared.Named.the-variants as named
 use Rattle.trace.specs.declared.Field.the-variants as field
 use Rattle.trace.specs.declared.Reading.the-variants as reading
 use Rattle.trace.specs.Words.{kindText, whoName, argName, valName, kindIn, kindNamed, namedBy, kindLine}
-use Rattle.trace.specs.Trace.{valueOf, givenBy, numberLine, eventAt, ended, eventText}
+use Rattle.trace.specs.Trace.{numberNamed, givenBy, numberLine, eventAt, ended, numberText, numbersText, eventText}
 use Rattle.trace.proofs.Lines.{lineAs}
 
 -- ---- a line
@@ -51,32 +50,21 @@ module _ (text : List ℕ) (at : ℕ) (l after : List ℕ) (stands : drop at tex
 
 -- ---- the lines of an event
 
+-- each kind's line has no newline, and names it
+Back : Kind → Type 0
+Back k = Clean (kindText k) × (kindNamed (kindText k) ≡ Known k)
+
+backs : Each (λ p. Back (kindAt p)) (length kinds)
+unfolding Back kindNamed kindIn sameBytes
+backs = search needs
+
 kind-back : (k : Kind) → Clean (kindText k) × (kindNamed (kindText k) ≡ Known k)
-unfolding kindNamed kindIn sameBytes
-kind-back kind.Power = (omega arith, refl)
-kind-back kind.Write = (omega arith, refl)
-kind-back kind.Point = (omega arith, refl)
-kind-back kind.Read = (omega arith, refl)
-kind-back kind.Sample = (omega arith, refl)
-kind-back kind.Tach = (omega arith, refl)
-kind-back kind.Pin = (omega arith, refl)
-kind-back kind.Clock = (omega arith, refl)
-kind-back kind.Period = (omega arith, refl)
+unfolding Back
+kind-back k = every-kind Back backs k
 
-value-back : (name : List ℕ) (z : ℤ) → SFits w32 z → valueOf name (name ++ textOf z) ≡ Number z
-unfolding valueOf
+value-back : (name : List ℕ) (z : ℤ) → SFits w32 z → numberNamed name (name ++ textOf z) ≡ Number z
+unfolding numberNamed
 value-back name z f = rw (take-append-seam, same-self, drop-append-seam) (decimal.round-trip z f)
-
-event-back : (e : Event) → eventOf (kindOf e) (numbersOf e) ≡ e
-event-back (event.Power n) = refl
-event-back (event.Bus (transfer.Write n)) = refl
-event-back (event.Bus (transfer.Point n)) = refl
-event-back (event.Bus (transfer.Read n)) = refl
-event-back (event.Sample n) = refl
-event-back (event.Tach n) = refl
-event-back (event.Pin n) = refl
-event-back (event.Clock n) = refl
-event-back (event.Period n) = refl
 
 -- ---- an event
 
@@ -90,7 +78,7 @@ module _ (text : List ℕ) (at : ℕ) (after : List ℕ) where
       → numberLine name text at ≡ field.Number z (at + length (ended (name ++ textOf z)))
   unfolding numberLine
   number-line name z c f stands =
-      line-back text at (name ++ textOf z) after stands givenBy field.Wrong (valueOf name) (clean-append name (textOf z) c (no-newline z)) ∙ rw (value-back name z f)
+      line-back text at (name ++ textOf z) after stands givenBy field.Wrong (numberNamed name) (clean-append name (textOf z) c (no-newline z)) ∙ rw (value-back name z f)
 
 four : (a b c d after : List ℕ) → (a ++ (b ++ (c ++ d))) ++ after ≡ a ++ (b ++ (c ++ (d ++ after)))
 four a b c d after = simp append-assoc
@@ -101,7 +89,7 @@ four-lengths a b c d = simp length-append
 -- an event whose text stands at an index is read there, and the next one starts behind it
 pub read-back : (text : List ℕ) (at : ℕ) (e : Event) (after : List ℕ) → drop at text ≡ eventText e ++ after
     → SFits w32 (numbersOf e .who) → SFits w32 (numbersOf e .arg) → SFits w32 (numbersOf e .val) → eventAt text at ≡ reading.Event e (at + length (eventText e))
-unfolding eventAt eventText
+unfolding eventAt eventText numbersText numberText
 read-back text at e after stands f f′ f″ =
     let kind : List ℕ = kindText (kindOf e) in
     let who : List ℕ = whoName ++ textOf (numbersOf e .who) in

@@ -9,6 +9,7 @@ use Rattle.decimal.specs.declared.Decimal.{Decimal}
 use Rattle.decimal.specs.declared.Decimal.the-variants.{Number, Malformed}
 use Rattle.decimal.specs.Decimal.{parseOf, textOf}
 use Rattle.event.specs.declared.Event.{Event}
+use Rattle.event.specs.declared.Numbers.{Numbers}
 use Rattle.event.specs.declared.Kind.{Kind}
 use Rattle.event.specs.Kinds.{kindOf, numbersOf, eventOf}
 use Rattle.line.specs.Line.{sameBytes, lineAt, endAt}
@@ -23,9 +24,9 @@ use Rattle.trace.specs.declared.Reading.the-variants as reading
 -- ---- reading
 
 -- the decimal behind a name on a line without its newline
-unfoldable pub valueOf : (name line : List ℕ) → Decimal
+unfoldable pub numberNamed : (name line : List ℕ) → Decimal
 unfolding sameBytes parseOf
-valueOf name line = cond (sameBytes (take (length name) line) name) (parseOf (drop (length name) line)) Malformed
+numberNamed name line = cond (sameBytes (take (length name) line) name) (parseOf (drop (length name) line)) Malformed
 
 abbrev pub givenBy : (next : ℕ) → Decimal → Field
 givenBy next (Number z) = field.Number z next
@@ -33,8 +34,8 @@ givenBy next Malformed = field.Wrong
 
 -- the line at an index as a name and a decimal, ended by a newline
 unfoldable pub numberLine : (name text : List ℕ) → ℕ → Field
-unfolding valueOf lineAt endAt
-numberLine name text at = cond (ltb (endAt text at) (length text)) (givenBy (endAt text at + 1) (valueOf name (lineAt text at))) field.Wrong
+unfolding numberNamed lineAt endAt
+numberLine name text at = cond (ltb (endAt text at) (length text)) (givenBy (endAt text at + 1) (numberNamed name (lineAt text at))) field.Wrong
 
 -- the four lines, each read where the one before it ended; a wrong one by its place from 0 and its start
 abbrev pub afterVal : (start : ℕ) → Kind → (who arg : ℤ) → Field → Reading
@@ -63,11 +64,15 @@ eventAt text at = afterKind text at (kindLine text at)
 abbrev pub ended : List ℕ → List ℕ
 ended line = line ++ (10 ∷ [])
 
--- the four lines of an event
-unfoldable pub eventText : Event → List ℕ
+-- the line of a number behind its name; the three of an event's numbers, and the four of the event
+unfoldable pub numberText : (name : List ℕ) → ℤ → List ℕ
 unfolding textOf
-eventText e =
-    ended (kindText (kindOf e))
-    ++ (ended (whoName ++ textOf (numbersOf e .who))
-    ++ (ended (argName ++ textOf (numbersOf e .arg))
-    ++ ended (valName ++ textOf (numbersOf e .val))))
+numberText name v = ended (name ++ textOf v)
+
+unfoldable pub numbersText : Numbers → List ℕ
+unfolding numberText
+numbersText n = numberText whoName (n .who) ++ (numberText argName (n .arg) ++ numberText valName (n .val))
+
+unfoldable pub eventText : Event → List ℕ
+unfolding numbersText
+eventText e = ended (kindText (kindOf e)) ++ numbersText (numbersOf e)

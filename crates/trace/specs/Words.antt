@@ -1,9 +1,9 @@
 -- The words of the trace text (document 01, "Trace text and report"), as bytes: one table for reader and writer.
 use Prim.Native.Nat.{ℕ, _+_}
-use mathlib.Core.List.{List, [], _∷_}
+use mathlib.Core.List.{List, [], _∷_, _++_}
 use mathlib.Core.Bool.{cond}
 use lib.Dec.{ltb}
-use lib.ListN.{length}
+use lib.ListN.{length, take, replicate}
 use Rattle.event.specs.declared.Kind.{Kind}
 use Rattle.event.specs.declared.Kind.the-variants as kind
 use Rattle.event.specs.Kinds.{kinds}
@@ -28,6 +28,14 @@ wordOf kind.Period = 112 ∷ 101 ∷ 114 ∷ 105 ∷ 111 ∷ 100 ∷ []
 -- kind= and the word
 abbrev pub kindText : Kind → List ℕ
 kindText k = 107 ∷ 105 ∷ 110 ∷ 100 ∷ 61 ∷ wordOf k
+
+-- the lines of the kinds in slots of 12 bytes, each filled up with zeros: the table that reader and writer look them up in
+abbrev pub slotsOf : List Kind → List ℕ
+slotsOf [] = []
+slotsOf (k ∷ ks) = take 12 (kindText k ++ (10 ∷ replicate 12 0)) ++ slotsOf ks
+
+unfoldable pub kindTable : List ℕ
+kindTable = slotsOf kinds
 
 -- who=, arg=, val=
 abbrev pub whoName : List ℕ

@@ -4,11 +4,15 @@ use decimal::Decimal;
 use event::Event;
 use event::Kind;
 use event::Numbers;
+use line::line_at;
 use line::line_end;
 use line::same;
 ghost use mathlib.Core.Path.{_≡_};
-ghost use Rattle.trace.specs.Words.{kindNamed, kindLine};
-ghost use Rattle.trace.specs.Trace.{valueOf, numberLine, eventAt};
+ghost use Prim.Native.Nat.{_<_};
+ghost use Rattle.event.specs.Kinds.{kindAt};
+ghost use Rattle.line.specs.Line.{sameBytes};
+ghost use Rattle.trace.specs.Words.{kindText, kindTable, kindNamed, kindLine};
+ghost use Rattle.trace.specs.Trace.{numberNamed, numberLine, eventAt};
 
 pub enum Word {
     Known(Kind),
@@ -34,36 +38,41 @@ pub enum Reading {
     Wrong(u8, usize),
 }
 
+// The lines of the kinds in slots of 12 bytes, in the order of their places, each filled up with zeros.
+pub fn kind_table() -> [u8; 108]
+    ensures { λ r. ⌜ r ≡ kindTable ⌝ }
+{
+    *b"kind=power\n\0kind=write\n\0kind=point\n\0kind=read\n\0\0kind=sample\nkind=tach\n\0\0kind=pin\n\0\0\0kind=clock\n\0kind=period\n"
+}
+
+// Whether a line without its newline names the kind at a place of the table.
+fn names(l: &[u8], place: u16) -> bool
+    requires { ⌜ place < 9 ⌝ }
+    ensures { λ r. ⌜ r ≡ sameBytes (now (l .entry)) (kindText (kindAt place)) ⌝ }
+{
+    let table = kind_table();
+    let at = 12 * place as usize;
+    let n = l.len();
+    if 11 < n {
+        return false;
+    }
+    // only behind a line as long stands a newline
+    if table[at + n] != 10 {
+        return false;
+    }
+    same(l, line_at(&table, at))
+}
+
 // The kind that a line without its newline names.
 fn kind_named(l: &[u8]) -> Word
     ensures { λ r. ⌜ r ≡ kindNamed (now (l .entry)) ⌝ }
 {
-    if same(l, b"kind=power") {
-        return Word::Known(Kind::Power);
-    }
-    if same(l, b"kind=write") {
-        return Word::Known(Kind::Write);
-    }
-    if same(l, b"kind=point") {
-        return Word::Known(Kind::Point);
-    }
-    if same(l, b"kind=read") {
-        return Word::Known(Kind::Read);
-    }
-    if same(l, b"kind=sample") {
-        return Word::Known(Kind::Sample);
-    }
-    if same(l, b"kind=tach") {
-        return Word::Known(Kind::Tach);
-    }
-    if same(l, b"kind=pin") {
-        return Word::Known(Kind::Pin);
-    }
-    if same(l, b"kind=clock") {
-        return Word::Known(Kind::Clock);
-    }
-    if same(l, b"kind=period") {
-        return Word::Known(Kind::Period);
+    let mut place: u16 = 0;
+    while place < event::KIND_COUNT {
+        if names(l, place) {
+            return Word::Known(event::kind_at(place));
+        }
+        place += 1;
     }
     Word::Unknown
 }
@@ -84,8 +93,8 @@ fn kind_line(text: &[u8], at: usize) -> Named
 }
 
 // The decimal behind a name on a line without its newline.
-fn value_of(name: &[u8], l: &[u8]) -> Decimal
-    ensures { λ r. ⌜ r ≡ valueOf (now (name .entry)) (now (l .entry)) ⌝ }
+fn number_named(name: &[u8], l: &[u8]) -> Decimal
+    ensures { λ r. ⌜ r ≡ numberNamed (now (name .entry)) (now (l .entry)) ⌝ }
 {
     let n = name.len();
     if l.len() < n {
@@ -106,7 +115,7 @@ fn number_line(name: &[u8], text: &[u8], at: usize) -> Field
     if text.len() <= e {
         return Field::Wrong;
     }
-    let d = value_of(name, &text[at..e]);
+    let d = number_named(name, &text[at..e]);
     match d {
         Decimal::Number(v) => Field::Number(v, e + 1),
         Decimal::Malformed => Field::Wrong,

@@ -2,7 +2,7 @@
 // Thin: each function takes the struct apart; whoever has a plain slice calls `trace::event_at` and `line::line_at`.
 use trace::Reading;
 ghost use mathlib.Core.Path.{_≡_};
-ghost use Rattle.line.specs.Line.{lineAt};
+ghost use Rattle.line.specs.Line.{lineAt, startOf, IsPart};
 ghost use Rattle.trace.specs.Trace.{eventAt};
 
 pub struct TraceReader<'a> {
@@ -32,7 +32,14 @@ pub fn moved<'a>(r: TraceReader<'a>, at: usize) -> TraceReader<'a>
 
 // The line at the reader's place, as a part of the text that it holds.
 pub fn current<'a>(r: TraceReader<'a>) -> &'a [u8]
-    ensures { λ s. ⌜ now s ≡ lineAt (now (r .entry .text)) (r .entry .at) ⌝ }
+    ensures { λ s. ⌜ (now s ≡ lineAt (now (r .entry .text)) (r .entry .at)) × (IsPart s (r .entry .text) (startOf (now (r .entry .text)) (r .entry .at))) ⌝ }
 {
     line::line_at(r.text, r.at)
+}
+
+// The event at a place of a text, by a reader that is made, moved there and asked: for who has a plain slice.
+pub fn read_at(text: &[u8], at: usize) -> Reading
+    ensures { λ r. ⌜ r ≡ eventAt (now (text .entry)) at ⌝ }
+{
+    next(moved(new(text), at))
 }

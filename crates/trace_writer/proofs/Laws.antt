@@ -1,8 +1,12 @@
 -- Laws of the trace text as it is written: lines put one behind the other in an array aside, and how long they are. Assumes nothing.
-use Prim.Native.Nat.{ℕ, _+_, _-_, _≤_}
+use Prim.Native.Nat.{ℕ, _+_, _-_, _*_, _≤_}
 use mathlib.Core.Path.{_≡_, ap, _∙_}
 use mathlib.Core.List.{List, [], _∷_, _++_, append-assoc}
 use native.Mathlib.Omega.{arith}
+use borrow.Author.Needs.{needs}
+use borrow.Author.Tests.{leb-true}
+use lib.Dec.{leb}
+use mathlib.Core.Bool.{true}
 use lib.IntN.{ℤ}
 use lib.ListN.{length, set, take, drop, length-append}
 use lib.Seq.{sets}
@@ -12,33 +16,57 @@ use mir.ValLaws.{toZ-ofZ}
 use Rattle.event.specs.declared.Numbers.{Numbers}
 use Rattle.event.specs.declared.Event.{Event}
 use Rattle.event.specs.declared.Kind.{Kind}
-use Rattle.event.specs.declared.Kind.the-variants as kind
-use Rattle.event.specs.Kinds.{kindOf, numbersOf}
+use Rattle.event.specs.Kinds.{kindOf, numbersOf, kinds, kindAt, placeOf}
+use Rattle.event.proofs.Laws.{Each, every-kind, kind-back, place-small}
+use Rattle.line.specs.Line.{lineAt, endAt}
+use Rattle.line.proofs.Lines.{ended-part}
 use Rattle.decimal.specs.Decimal.{textOf}
 use Rattle.decimal.proofs.Laws.{text-width}
 use Rattle.buffer.proofs.Laws.{then, end-then, line-end, line-put, aside, aside-room}
-use Rattle.trace.specs.Words.{kindText, whoName, argName, valName}
-use Rattle.trace.specs.Trace.{ended, eventText}
+use Rattle.trace.specs.Words.{kindText, kindTable, whoName, argName, valName}
+use Rattle.trace.specs.Trace.{ended, numberText, numbersText, eventText}
+use Rattle.trace.proofs.Words.{slot-line}
 
 -- ---- the line of a kind
 
--- by the kind that was matched
-pub kind-end : (k : Kind) {j : Kind} {r : ℕ} → k ≡ j → r ≡ length (ended (kindText j)) → r ≡ length (ended (kindText k))
-kind-end k q h = rw q h
+Short : Kind → Type 0
+Short k = leb (length (ended (kindText k))) 12 ≡ true
 
-pub kind-put : (k : Kind) {j : Kind} (d : List ℕ) {d1 : List ℕ} → k ≡ j → d1 ≡ sets d 0 (ended (kindText j)) → d1 ≡ sets d 0 (ended (kindText k))
-kind-put k d q h = rw q h
+shorts : Each (λ p. Short (kindAt p)) (length kinds)
+unfolding Short
+shorts = search needs
 
-kind-width : (k : Kind) → length (ended (kindText k)) ≤ 12
-kind-width kind.Power = omega arith
-kind-width kind.Write = omega arith
-kind-width kind.Point = omega arith
-kind-width kind.Read = omega arith
-kind-width kind.Sample = omega arith
-kind-width kind.Tach = omega arith
-kind-width kind.Pin = omega arith
-kind-width kind.Clock = omega arith
-kind-width kind.Period = omega arith
+short : (k : Kind) → length (ended (kindText k)) ≤ 12
+unfolding Short
+short k = leb-true (length (ended (kindText k))) 12 (every-kind Short shorts k)
+
+-- it stands in its slot of the table
+module _ (k : Kind) {p : ℕ} (hp : p ≡ placeOf k) (table : List ℕ) (ht : table ≡ kindTable) {e : ℕ} (he : e ≡ endAt table (12 * p)) where
+  line-is : lineAt table (12 * p) ≡ kindText k
+  line-is = rw (ht, hp) (slot-line (placeOf k) (place-small k) ∙ ap kindText (kind-back k))
+
+  end-is : e + 1 ≡ 12 * p + length (ended (kindText k))
+  unfolding endAt
+  end-is = omega (arith, ap length line-is, length-append (kindText k) (10 ∷ []))
+
+  pub slot-within : e + 1 ≤ length table
+  unfolding kindTable
+  slot-within = rw ht (omega (arith, end-is, short k, place-small k))
+
+  pub slot-fits : Fits w64 (e + 1)
+  slot-fits = omega (arith, end-is, short k, place-small k)
+
+  pub slot-from : 12 * p ≤ e + 1
+  slot-from = omega (arith, end-is)
+
+  pub slot-end : e + 1 - 12 * p ≡ length (ended (kindText k))
+  slot-end = omega (arith, end-is)
+
+  pub slot-near : e + 1 - 12 * p ≤ 12
+  slot-near = omega (arith, end-is, short k)
+
+  pub slot-put : (d : List ℕ) {d1 : List ℕ} → d1 ≡ sets d 0 (take (e + 1 - 12 * p) (drop (12 * p) table)) → d1 ≡ sets d 0 (ended (kindText k))
+  slot-put d h = rw (ended-part table (12 * p) he (omega (arith, slot-within)), line-is) at h
 
 -- ---- the line of a number
 
@@ -53,64 +81,56 @@ module _ (name : List ℕ) (v : ℤ) (f : SFits w32 v) (at : ℕ) {k : ℕ} (q :
   pub number-fits : at ≤ 4096 → length name ≤ 16 → Fits w64 (at + length name + k + 1)
   number-fits h l = omega (arith, digits, text-width v f)
 
-  pub number-end : at + length name + k + 1 ≡ at + length (ended (name ++ textOf v))
+  pub number-near : at + length name + k + 1 ≤ at + length name + 12
+  number-near = omega (arith, digits, text-width v f)
+
+  pub number-end : at + length name + k + 1 ≡ at + length (numberText name v)
+  unfolding numberText
   number-end = rw append-assoc (line-end name (textOf v) at digits)
 
   pub number-put : (d d1 d2 : List ℕ) {d3 : List ℕ} → d1 ≡ sets d at name → d2 ≡ sets d1 (at + length name) (textOf (toZ w32 (ofZ w32 v))) → d3 ≡ set d2 (at + length name + k + 0) 10
-      → d3 ≡ sets d at (ended (name ++ textOf v))
+      → d3 ≡ sets d at (numberText name v)
+  unfolding numberText
   number-put d d1 d2 h1 h2 h3 = rw append-assoc (line-put name (textOf v) at digits d d1 d2 h1 (rw (toZ-ofZ w32 v f) at h2) h3)
 
--- ---- the four lines of an event
+-- ---- the lines of an event
 
 -- the line of a number that went through a call
 abbrev sent : List ℕ → ℤ → List ℕ
-sent name v = ended (name ++ textOf (toZ w32 (ofZ w32 v)))
+sent name v = numberText name (toZ w32 (ofZ w32 v))
 
-sent-width : (name : List ℕ) (v : ℤ) → SFits w32 v → length (sent name v) ≤ length name + 12
-sent-width name v f = rw (toZ-ofZ w32 v f) (omega (arith, length-append (name ++ textOf v) (10 ∷ []), length-append name (textOf v), text-width v f))
+module _ (n : Numbers) (who : SFits w32 (n .who)) (arg : SFits w32 (n .arg)) (val : SFits w32 (n .val)) (at : ℕ) where
+  numbers-text : sent whoName (n .who) ++ (sent argName (n .arg) ++ sent valName (n .val)) ≡ numbersText n
+  unfolding numbersText
+  numbers-text = rw (toZ-ofZ w32 (n .who) who, toZ-ofZ w32 (n .arg) arg, toZ-ofZ w32 (n .val) val)
 
-pub who-near : (k : Kind) {a : ℕ} → a ≡ length (ended (kindText k)) → a ≤ 4096
-who-near k q = omega (arith, kind-width k)
+  pub numbers-end : {e : ℕ} → e ≡ at + length (sent whoName (n .who) ++ (sent argName (n .arg) ++ sent valName (n .val))) → e ≡ at + length (numbersText n)
+  numbers-end h = h ∙ ap (λ (t : List ℕ). at + length t) numbers-text
 
-module _ (e : Event) {n : Numbers} {k : Kind} (hn : n ≡ numbersOf e) (hk : k ≡ kindOf e)
-    (who : SFits w32 (n .who)) (arg : SFits w32 (n .arg)) (val : SFits w32 (n .val)) where
-  pub arg-near : (a : ℕ) {b : ℕ} → b ≡ a + length (sent whoName (n .who)) → a ≡ length (ended (kindText k)) → b ≤ 4096
-  arg-near a q2 q1 = omega (arith, kind-width k, sent-width whoName (n .who) who)
+  pub numbers-put : (z : List ℕ) {d : List ℕ} → d ≡ sets z at (sent whoName (n .who) ++ (sent argName (n .arg) ++ sent valName (n .val))) → d ≡ sets z at (numbersText n)
+  numbers-put z h = h ∙ ap (sets z at) numbers-text
 
-  pub val-near : (a b : ℕ) {c : ℕ} → c ≡ b + length (sent argName (n .arg)) → b ≡ a + length (sent whoName (n .who)) → a ≡ length (ended (kindText k)) → c ≤ 4096
-  val-near a b q3 q2 q1 = omega (arith, kind-width k, sent-width whoName (n .who) who, sent-width argName (n .arg) arg)
+module _ (e : Event) {n : Numbers} {k : Kind} (hn : n ≡ numbersOf e) (hk : k ≡ kindOf e) (z d1 : List ℕ) (a : ℕ) {d2 : List ℕ} {b : ℕ}
+    (h2 : d2 ≡ sets d1 a (numbersText n)) (q2 : b ≡ a + length (numbersText n)) (h1 : d1 ≡ sets z 0 (ended (kindText k))) (q1 : a ≡ length (ended (kindText k)))
+    (n2 : b ≤ a + 48) (n1 : a ≤ 12) (l : length z ≡ 60) where
+  from-start : a ≡ 0 + length (ended (kindText k))
+  from-start = omega arith
 
-  event-text : ended (kindText k) ++ (sent whoName (n .who) ++ (sent argName (n .arg) ++ sent valName (n .val))) ≡ eventText e
+  event-text : ended (kindText k) ++ numbersText n ≡ eventText e
   unfolding eventText
-  event-text = rw (toZ-ofZ w32 (n .who) who, toZ-ofZ w32 (n .arg) arg, toZ-ofZ w32 (n .val) val, hn, hk)
+  event-text = rw (hn, hk)
 
-  module _ (z d1 d2 d3 : List ℕ) (a b c : ℕ) {d4 : List ℕ} {d : ℕ}
-      (h4 : d4 ≡ sets d3 c (sent valName (n .val))) (q4 : d ≡ c + length (sent valName (n .val)))
-      (h3 : d3 ≡ sets d2 b (sent argName (n .arg))) (q3 : c ≡ b + length (sent argName (n .arg)))
-      (h2 : d2 ≡ sets d1 a (sent whoName (n .who))) (q2 : b ≡ a + length (sent whoName (n .who)))
-      (h1 : d1 ≡ sets z 0 (ended (kindText k))) (q1 : a ≡ length (ended (kindText k))) (l : length z ≡ 60) where
-    from-start : a ≡ 0 + length (ended (kindText k))
-    from-start = omega arith
+  event-end : b ≡ 0 + length (eventText e)
+  event-end = end-then (ended (kindText k)) (numbersText n) 0 a b from-start q2 ∙ ap (λ (t : List ℕ). 0 + length t) event-text
 
-    event-end : d ≡ 0 + length (eventText e)
-    event-end =
-        end-then (ended (kindText k)) (sent whoName (n .who) ++ (sent argName (n .arg) ++ sent valName (n .val))) 0 a d from-start
-        (end-then (sent whoName (n .who)) (sent argName (n .arg) ++ sent valName (n .val)) a b d q2
-        (end-then (sent argName (n .arg)) (sent valName (n .val)) b c d q3 q4))
-        ∙ ap (λ (t : List ℕ). 0 + length t) event-text
+  event-put : d2 ≡ sets z 0 (eventText e)
+  event-put = then z d1 d2 (ended (kindText k)) (numbersText n) 0 a h1 from-start h2 ∙ ap (sets z 0) event-text
 
-    event-put : d4 ≡ sets z 0 (eventText e)
-    event-put =
-        then z d1 d4 (ended (kindText k)) (sent whoName (n .who) ++ (sent argName (n .arg) ++ sent valName (n .val))) 0 a h1 from-start
-        (then d1 d2 d4 (sent whoName (n .who)) (sent argName (n .arg) ++ sent valName (n .val)) a b h2 q2
-        (then d2 d3 d4 (sent argName (n .arg)) (sent valName (n .val)) b c h3 q3 h4))
-        ∙ ap (sets z 0) event-text
+  event-width : length (eventText e) ≤ length z
+  event-width = omega (arith, event-end)
 
-    event-width : length (eventText e) ≤ length z
-    event-width = omega (arith, event-end, kind-width k, sent-width whoName (n .who) who, sent-width argName (n .arg) arg, sent-width valName (n .val) val)
+  pub event-room : b ≤ length d2
+  event-room = aside-room z (eventText e) event-put event-end event-width
 
-    pub event-room : d ≤ length d4
-    event-room = aside-room z (eventText e) event-put event-end event-width
-
-    pub event-aside : take (d - 0) (drop 0 d4) ≡ eventText e
-    event-aside = aside z (eventText e) event-put event-end event-width
+  pub event-aside : take (b - 0) (drop 0 d2) ≡ eventText e
+  event-aside = aside z (eventText e) event-put event-end event-width

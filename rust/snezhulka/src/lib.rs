@@ -1,4 +1,5 @@
-//! Safe calls of the proved fan keeper: a trace text in and a report out, or events in and outcomes out.
+//! Safe calls of the proved fan keeper: a trace text in and a report out, or events in and outcomes or a register
+//! image out; and a trace text read and written again.
 
 use std::fmt;
 
@@ -22,6 +23,22 @@ mod library {
             count: usize,
             outcomes: *mut u8,
             outcomes_len: usize,
+        ) -> usize;
+
+        // The reply number of the register image.
+        pub fn snezhulka_image(
+            numbers: *const i32,
+            count: usize,
+            image: *mut u8,
+            image_len: usize,
+        ) -> usize;
+
+        // How many bytes of the text were written again.
+        pub fn snezhulka_rewrite(
+            text: *const u8,
+            text_len: usize,
+            copy: *mut u8,
+            copy_len: usize,
         ) -> usize;
     }
 }
@@ -90,6 +107,33 @@ pub fn steps(events: &[Event], outcomes: &mut [Outcome]) -> Result<usize, WrongS
     } else {
         Ok(end / 7)
     }
+}
+
+/// How many bytes of a buffer a register image takes.
+pub const IMAGE_LENGTH: usize = 64;
+
+/// Steps a keeper that never had power through `events` and puts its register image into `image`: at each place what a
+/// read of that address would return. Gives the reply number: 0; 1 before the first accepted power; 10 where an event
+/// has another kind; 11 where `image` is too short. But for 0 no byte of `image` has changed.
+pub fn image(events: &[Event], image: &mut [u8]) -> u8 {
+    let numbers = events.as_flattened();
+    // Safety: as in `replay`.
+    let number = unsafe {
+        library::snezhulka_image(
+            numbers.as_ptr(),
+            numbers.len(),
+            image.as_mut_ptr(),
+            image.len(),
+        )
+    };
+    number as u8
+}
+
+/// Reads the events of `text` and writes each of them again into `copy`, up to the first that is not well-formed or
+/// does not fit. Gives how many bytes that are; they are the text's own, since an event has one text only.
+pub fn rewrite(text: &[u8], copy: &mut [u8]) -> usize {
+    // Safety: as in `replay`.
+    unsafe { library::snezhulka_rewrite(text.as_ptr(), text.len(), copy.as_mut_ptr(), copy.len()) }
 }
 
 #[cfg(test)]

@@ -1,4 +1,6 @@
-use super::{replay, report_of, steps, Event, WrongSize, LONGEST_TEXT};
+use super::{
+    image, library, replay, report_of, rewrite, steps, Event, WrongSize, IMAGE_LENGTH, LONGEST_TEXT,
+};
 
 // Power, a clock event and a write to a foreign address.
 const EXAMPLE: &[u8] = b"kind=power\nwho=44\narg=0\nval=0\n\
@@ -139,4 +141,72 @@ fn every_number_is_passed_whole() {
         assert_eq!(steps(&events, &mut outcomes), Ok(2));
         assert_eq!(outcomes[1][0], answer, "val {val}");
     }
+}
+
+const POWER: Event = [0, 44, 0, 0];
+
+#[test]
+fn image_after_power_has_the_reset_bytes() {
+    let mut buffer = [0xaa; IMAGE_LENGTH + 3];
+    assert_eq!(image(&[POWER], &mut buffer), 0);
+    assert_eq!(buffer[..2], [0x90, 0x7f]);
+    assert_eq!(buffer[0x3d..0x40], [0x31, 0x41, 0x80]);
+    assert_eq!(buffer[0x30], 0);
+    assert_eq!(buffer[IMAGE_LENGTH..], [0xaa; 3]);
+}
+
+#[test]
+fn image_that_is_refused_leaves_the_buffer() {
+    let foreign: Event = [9, 0, 0, 0];
+    let cases: [(&[Event], usize, u8); 4] = [
+        (&[], IMAGE_LENGTH, 1),
+        (&[], IMAGE_LENGTH - 1, 1),
+        (&[POWER, foreign], IMAGE_LENGTH, 10),
+        (&[POWER], IMAGE_LENGTH - 1, 11),
+    ];
+    for (events, length, number) in cases {
+        let mut buffer = vec![0xaa; length];
+        assert_eq!(image(events, &mut buffer), number);
+        assert!(buffer.iter().all(|&byte| byte == 0xaa));
+    }
+}
+
+#[test]
+fn image_of_numbers_that_are_no_whole_events() {
+    let numbers = [0, 44, 0, 0, 7];
+    let mut buffer = [0xaa; IMAGE_LENGTH];
+    // Safety: both slices are alive, each goes with its own length, and they don't overlap.
+    let number = unsafe {
+        library::snezhulka_image(
+            numbers.as_ptr(),
+            numbers.len(),
+            buffer.as_mut_ptr(),
+            buffer.len(),
+        )
+    };
+    assert_eq!(number, 11);
+    assert_eq!(buffer, [0xaa; IMAGE_LENGTH]);
+}
+
+#[test]
+fn right_text_is_written_again_as_it_was() {
+    let mut copy = [0xaa; 200];
+    assert_eq!(rewrite(EXAMPLE, &mut copy), EXAMPLE.len());
+    assert_eq!(&copy[..EXAMPLE.len()], EXAMPLE);
+    assert!(copy[EXAMPLE.len()..].iter().all(|&byte| byte == 0xaa));
+}
+
+#[test]
+fn text_is_written_again_up_to_what_is_wrong_or_does_not_fit() {
+    let first = b"kind=power\nwho=44\narg=0\nval=0\n".len();
+    let mut damaged = EXAMPLE.to_vec();
+    damaged[first + 1] = b'x';
+    let mut copy = [0xaa; 200];
+    assert_eq!(rewrite(&damaged, &mut copy), first);
+    assert_eq!(&copy[..first], &EXAMPLE[..first]);
+    assert_eq!(copy[first], 0xaa);
+    let mut short = vec![0xaa; first + 10];
+    assert_eq!(rewrite(EXAMPLE, &mut short), first);
+    assert_eq!(&short[..first], &EXAMPLE[..first]);
+    assert!(short[first..].iter().all(|&byte| byte == 0xaa));
 }

@@ -40,14 +40,18 @@ fn number(word: &str) -> Option<i32> {
 
 /// The report put together from the outcomes that the proved engine gives, if every line of the text is right.
 pub fn report_of(text: &[u8]) -> Option<Vec<u8>> {
-    let events = events_of(text)?;
+    events_of(text).as_deref().map(report_after)
+}
+
+/// The same for events.
+pub fn report_after(events: &[Event]) -> Vec<u8> {
     let mut outcomes = vec![[0; 7]; events.len()];
-    let taken = snezhulka::steps(&events, &mut outcomes).expect("there is room for all");
+    let taken = snezhulka::steps(events, &mut outcomes).expect("there is room for all");
     let mut report = Vec::with_capacity(68 * taken);
     for outcome in &outcomes[..taken] {
         put_outcome(&mut report, outcome);
     }
-    Some(report)
+    report
 }
 
 fn put_outcome(report: &mut Vec<u8>, outcome: &Outcome) {

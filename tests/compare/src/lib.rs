@@ -2,6 +2,7 @@
 
 pub mod coverage;
 pub mod events;
+pub mod images;
 pub mod program;
 pub mod random;
 pub mod shrink;

@@ -3,7 +3,7 @@
 //! compare [--traces N] [--seed S] [--program PATH]
 
 use compare::coverage::Coverage;
-use compare::{events, program, shrink, traces};
+use compare::{events, images, program, shrink, traces};
 use std::process::ExitCode;
 use std::sync::atomic::{AtomicBool, AtomicU64, Ordering};
 use std::thread;
@@ -52,10 +52,25 @@ fn engine_report(text: &[u8]) -> Vec<u8> {
     events::report_of(text).unwrap_or_else(|| second_report(text))
 }
 
+/// Whether the register image after the first events differs; wrong text has no events.
+fn image_differs(text: &[u8], index: u64) -> bool {
+    events::events_of(text).is_some_and(|events| {
+        images::proved_image(&events, index) != images::second_image(&events, index)
+    })
+}
+
+/// Whether the text written again differs.
+fn copy_differs(text: &[u8], index: u64) -> bool {
+    images::proved_copy(text, index) != images::second_copy(text, index)
+}
+
 /// What one thread has counted, and the first trace that differs, if any.
 struct Finding {
     coverage: Coverage,
     engine_traces: u64,
+    images: [u64; images::NUMBERS.len()],
+    whole_copies: u64,
+    part_copies: u64,
     different: Option<u64>,
 }
 
@@ -64,21 +79,81 @@ impl Finding {
         Finding {
             coverage: Coverage::new(),
             engine_traces: 0,
+            images: [0; images::NUMBERS.len()],
+            whole_copies: 0,
+            part_copies: 0,
             different: None,
         }
     }
 
-    /// Compares one trace: the replay, and the engine alone where the text is right.
+    /// Compares one trace: the replay; where the text is right, the engine alone and the register image; the text
+    /// written again.
     fn take(&mut self, text: &[u8], index: u64) {
         let expected = second_report(text);
         let report = snezhulka::report_of(text);
-        let by_engine = events::report_of(text);
+        let events = events::events_of(text);
+        let by_engine = events.as_deref().map(events::report_after);
         self.engine_traces += u64::from(by_engine.is_some());
-        if report != expected || by_engine.is_some_and(|report| report != expected) {
-            self.different = Some(index);
-        } else {
+        let image_alike = events.is_none_or(|events| self.take_image(&events, index));
+        let copy_alike = self.take_copy(text, index);
+        let report_alike = report == expected && by_engine.is_none_or(|report| report == expected);
+        if report_alike && image_alike && copy_alike {
             self.coverage.count(&report);
+        } else {
+            self.different = Some(index);
         }
+    }
+
+    fn take_image(&mut self, events: &[snezhulka::Event], index: u64) -> bool {
+        let image = images::proved_image(events, index);
+        for (number, seen) in images::NUMBERS.iter().zip(&mut self.images) {
+            *seen += u64::from(image.0 == *number);
+        }
+        image == images::second_image(events, index)
+    }
+
+    fn take_copy(&mut self, text: &[u8], index: u64) -> bool {
+        let copy = images::proved_copy(text, index);
+        if copy.0 == text.len() {
+            self.whole_copies += 1;
+        } else {
+            self.part_copies += 1;
+        }
+        copy == images::second_copy(text, index)
+    }
+
+    /// Adds what another thread has found.
+    fn add(&mut self, other: &Finding) {
+        self.coverage.add(&other.coverage);
+        self.engine_traces += other.engine_traces;
+        for (mine, theirs) in self.images.iter_mut().zip(other.images) {
+            *mine += theirs;
+        }
+        self.whole_copies += other.whole_copies;
+        self.part_copies += other.part_copies;
+        self.different = self.different.into_iter().chain(other.different).min();
+    }
+
+    /// What was never tried.
+    fn missing(&self) -> Vec<String> {
+        let mut missing = self.coverage.missing();
+        let counts = [
+            (self.engine_traces, "the engine alone"),
+            (self.whole_copies, "a text written again whole"),
+            (self.part_copies, "a text written again in part"),
+        ];
+        missing.extend(
+            counts
+                .iter()
+                .filter(|count| count.0 == 0)
+                .map(|count| count.1.to_string()),
+        );
+        for (number, seen) in images::NUMBERS.iter().zip(self.images) {
+            if seen == 0 {
+                missing.push(format!("an image answered {number}"));
+            }
+        }
+        missing
     }
 }
 
@@ -107,9 +182,7 @@ fn compare_all(arguments: &Arguments) -> Finding {
         let threads: Vec<_> = (0..THREADS).map(start).collect();
         for thread in threads {
             let finding = thread.join().expect("a comparing thread ends by itself");
-            all.coverage.add(&finding.coverage);
-            all.engine_traces += finding.engine_traces;
-            all.different = all.different.into_iter().chain(finding.different).min();
+            all.add(&finding);
         }
     });
     all
@@ -127,13 +200,31 @@ fn explain(seed: u64, index: u64, keeper: &dyn Fn(&[u8]) -> Vec<u8>) -> String {
     )
 }
 
-/// The same where it isn't known whether the replay differs or the engine alone.
+/// Says that something beside the report differs, and the shortest trace at which it does.
+fn explain_other(
+    seed: u64,
+    index: u64,
+    what: &str,
+    differs: &dyn Fn(&[u8], u64) -> bool,
+) -> String {
+    let short = shrink::shortest(&traces::trace(seed, index), &|rest| differs(rest, index));
+    format!(
+        "{what}: seed {seed}, trace {index} differs\nshortest trace that differs, taken as trace {index}:\n{}",
+        shrink::shown_trace(&short),
+    )
+}
+
+/// The same where it isn't known what differs.
 fn explain_in_process(seed: u64, index: u64) -> String {
     let text = traces::trace(seed, index);
     if snezhulka::report_of(&text) != second_report(&text) {
         explain(seed, index, &snezhulka::report_of)
-    } else {
+    } else if engine_report(&text) != second_report(&text) {
         format!("the engine alone: {}", explain(seed, index, &engine_report))
+    } else if image_differs(&text, index) {
+        explain_other(seed, index, "the register image", &image_differs)
+    } else {
+        explain_other(seed, index, "the text written again", &copy_differs)
     }
 }
 
@@ -162,15 +253,16 @@ fn run() -> Result<(), String> {
     if let Some(path) = &arguments.program {
         compare_program(path, arguments.seed)?;
     }
-    let coverage = finding.coverage;
+    let coverage = &finding.coverage;
     coverage.print();
-    let mut missing = coverage.missing();
-    if finding.engine_traces == 0 {
-        missing.push("the engine alone".to_string());
-    }
+    let missing = finding.missing();
     if !missing.is_empty() {
         return Err(format!("never reached: {}", missing.join(", ")));
     }
+    println!(
+        "register images answered 0, 1, 10, 11: {:?} times; texts written again whole {}, in part {}",
+        finding.images, finding.whole_copies, finding.part_copies
+    );
     println!(
         "compared {} traces, {} events, all alike; {} of the traces with the engine alone too",
         coverage.traces, coverage.events, finding.engine_traces

@@ -5,6 +5,7 @@ mod acts;
 mod counts;
 mod fans;
 mod fields;
+mod image;
 mod replies;
 
 #[derive(Clone, Copy, PartialEq, Eq, Debug)]

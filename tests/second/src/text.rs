@@ -31,6 +31,20 @@ pub fn replay(text: &[u8]) -> Vec<u8> {
     report
 }
 
+/// Where the last event ends that is well-formed, as those before it, and lies within the first `room` bytes.
+pub fn whole_events(text: &[u8], room: usize) -> usize {
+    let mut reader = Reader {
+        text,
+        place: 0,
+        line: 1,
+    };
+    let mut end = 0;
+    while reader.event().is_some() && reader.place <= room {
+        end = reader.place;
+    }
+    end
+}
+
 /// The text, the place of the next line, and the number of that line from 1.
 struct Reader<'a> {
     text: &'a [u8],

@@ -6,6 +6,9 @@ use Rattle.channel.proofs.channel_after.Tie as tie
 passes-by-requires : tie.Need-passes-by-requires
 passes-by-requires c κs = search needs
 
+is-on-requires : tie.Need-is-on-requires
+is-on-requires c κs = search needs
+
 channel-kept-requires : tie.Need-channel-kept-requires
 channel-kept-requires c κs = search needs
 
@@ -21,4 +24,10 @@ returns-2 c = search needs
 pub channel-after-spec : {M : Type 1} → statement M
 channel-after-spec =
     tie.close
-    (tie.spec passes-by-requires channel-kept-requires channel-moved-requires returns returns-2)
+    (tie.spec
+    passes-by-requires
+    is-on-requires
+    channel-kept-requires
+    channel-moved-requires
+    returns
+    returns-2)

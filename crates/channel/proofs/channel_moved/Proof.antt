@@ -1,4 +1,4 @@
-use Rattle.channel.specs.Channels.{channelAfter}
+use Rattle.channel.proofs.Laws.{moved-is}
 use borrow.Author.Needs.{needs}
 use Rattle.channel.proofs.channel_moved.Statement.{statement}
 use Rattle.channel.proofs.channel_moved.Tie as tie
@@ -21,9 +21,11 @@ low-bit-after-requires c κs = search needs
 therm-bit-after-requires : tie.Need-therm-bit-after-requires
 therm-bit-after-requires c κs = search needs
 
+error-after-requires : tie.Need-error-after-requires
+error-after-requires c κs = search needs
+
 returns : tie.Need-returns
-unfolding channelAfter
-returns c = rw (c .therm-bit-after .ensures, c .before .low-bit-after .ensures, c .before .before .high-bit-after .ensures, c .before .before .before .flag-after .ensures, c .before .before .before .before .reading-after .ensures, c .before .before .before .before .before .latch-after .ensures)
+returns c = search moved-is
 
 pub channel-moved-spec : {M : Type 1} → statement M
 channel-moved-spec =
@@ -35,4 +37,5 @@ channel-moved-spec =
     high-bit-after-requires
     low-bit-after-requires
     therm-bit-after-requires
+    error-after-requires
     returns)

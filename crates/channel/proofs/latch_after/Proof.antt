@@ -3,14 +3,17 @@ use borrow.Author.Needs.{needs}
 use Rattle.channel.proofs.latch_after.Statement.{statement}
 use Rattle.channel.proofs.latch_after.Tie as tie
 
+channel-registers-of-requires : tie.Need-channel-registers-of-requires
+channel-registers-of-requires c κs = search needs
+
 is-restart-requires : tie.Need-is-restart-requires
 is-restart-requires c κs = search needs
 
 is-sample-requires : tie.Need-is-sample-requires
 is-sample-requires c κs = search needs
 
-measured-requires : tie.Need-measured-requires
-measured-requires c κs = search needs
+sampled-requires : tie.Need-sampled-requires
+sampled-requires c κs = search needs
 
 latched-requires : tie.Need-latched-requires
 latched-requires c κs = search needs
@@ -26,9 +29,10 @@ pub latch-after-spec : {M : Type 1} → statement M
 latch-after-spec =
     tie.close
     (tie.spec
+    channel-registers-of-requires
     is-restart-requires
     is-sample-requires
-    measured-requires
+    sampled-requires
     latched-requires
     flag-after-requires
     returns)

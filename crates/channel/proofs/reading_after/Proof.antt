@@ -9,8 +9,8 @@ is-restart-requires c κs = search needs
 is-sample-requires : tie.Need-is-sample-requires
 is-sample-requires c κs = search needs
 
-measured-requires : tie.Need-measured-requires
-measured-requires c κs = search needs
+sampled-requires : tie.Need-sampled-requires
+sampled-requires c κs = search needs
 
 returns : tie.Need-returns
 returns c = search reading-restart
@@ -24,4 +24,4 @@ returns-3 c = search reading-kept
 pub reading-after-spec : {M : Type 1} → statement M
 reading-after-spec =
     tie.close
-    (tie.spec is-restart-requires is-sample-requires measured-requires returns returns-2 returns-3)
+    (tie.spec is-restart-requires is-sample-requires sampled-requires returns returns-2 returns-3)

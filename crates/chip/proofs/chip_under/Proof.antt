@@ -1,4 +1,4 @@
-use Rattle.chip.specs.Chips.{chipUnder}
+use Rattle.chip.proofs.Laws.{under-is}
 use borrow.Author.Needs.{needs}
 use Rattle.chip.proofs.chip_under.Statement.{statement}
 use Rattle.chip.proofs.chip_under.Tie as tie
@@ -13,8 +13,7 @@ chip-with-requires : tie.Need-chip-with-requires
 chip-with-requires c κs = search needs
 
 returns : tie.Need-returns
-unfolding chipUnder
-returns c = rw (c .chip-with .ensures, c .before .port-after .ensures, c .before .before .channels-after .ensures)
+returns c = search under-is
 
 pub chip-under-spec : {M : Type 1} → statement M
 chip-under-spec =

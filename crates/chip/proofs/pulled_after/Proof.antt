@@ -1,3 +1,4 @@
+use Rattle.chip.proofs.Laws.{pulled-is}
 use borrow.Author.Needs.{needs}
 use Rattle.chip.proofs.pulled_after.Statement.{statement}
 use Rattle.chip.proofs.pulled_after.Tie as tie
@@ -18,7 +19,7 @@ bit-after-requires : tie.Need-bit-after-requires
 bit-after-requires c κs = search needs
 
 returns : tie.Need-returns
-returns c = rw (c .bit-after .ensures, c .before .is-read .ensures, c .before .before .status-at .ensures, c .before .before .before .is-restart .ensures, c .before .before .before .before .before .is-a .ensures)
+returns c = search pulled-is
 
 pub pulled-after-spec : {M : Type 1} → statement M
 pulled-after-spec =

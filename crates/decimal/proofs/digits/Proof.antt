@@ -5,7 +5,7 @@ use native.Mathlib.Omega.{arith}
 use borrow.Author.Needs.{needs}
 use lib.ListN.{length, drop}
 use Rattle.decimal.specs.Decimal.{digitsFrom}
-use Rattle.decimal.proofs.Laws.{run-low, run-high, run-more, run-over, run-end}
+use Rattle.decimal.proofs.ReadLaws.{run-low, run-high, run-more, run-over, run-end}
 use Rattle.decimal.proofs.digits.Statement.{statement}
 use Rattle.decimal.proofs.digits.Tie as tie
 

@@ -1,4 +1,4 @@
-use Rattle.decimal.proofs.Laws.{value-fits, less-fits, parse-none, parse-minus-zero, parse-minus, parse-minus-bad, parse-plus, parse-plus-bad}
+use Rattle.decimal.proofs.ReadLaws.{value-fits, less-fits, parse-none, parse-minus-zero, parse-minus, parse-minus-bad, parse-plus, parse-plus-bad}
 use borrow.Author.Needs.{needs}
 use Rattle.decimal.proofs.read_decimal.Statement.{statement}
 use Rattle.decimal.proofs.read_decimal.Tie as tie
@@ -33,8 +33,8 @@ sub-t18 c = search needs
 cast-t19 : tie.Need-cast-t19
 cast-t19 c = search less-fits
 
-decide-requires : tie.Need-decide-requires
-decide-requires c κs = search needs
+from-sign-requires : tie.Need-from-sign-requires
+from-sign-requires c κs = search needs
 
 enum-told : tie.Need-enum-told
 enum-told c = search needs
@@ -48,8 +48,8 @@ enum-known-m-2 c = search needs
 cast-t22 : tie.Need-cast-t22
 cast-t22 c = search value-fits
 
-decide-requires-2 : tie.Need-decide-requires-2
-decide-requires-2 c κs = search needs
+from-sign-requires-2 : tie.Need-from-sign-requires-2
+from-sign-requires-2 c κs = search needs
 
 enum-told-2 : tie.Need-enum-told-2
 enum-told-2 c = search needs
@@ -80,12 +80,12 @@ read-decimal-spec =
     returns-2
     sub-t18
     cast-t19
-    decide-requires
+    from-sign-requires
     enum-told
     magnitude-of-requires-2
     enum-known-m-2
     cast-t22
-    decide-requires-2
+    from-sign-requires-2
     enum-told-2
     returns-3
     returns-4

@@ -1,3 +1,4 @@
+use Rattle.demand.specs.Demand.{demandOf}
 use Rattle.demand.proofs.Laws.{sum-fits, demand-on, demand-off}
 use borrow.Author.Needs.{needs}
 use Rattle.demand.proofs.demand.Statement.{statement}
@@ -19,9 +20,11 @@ at-most-240-requires : tie.Need-at-most-240-requires
 at-most-240-requires c κs = search needs
 
 returns : tie.Need-returns
+unfolding demandOf
 returns c = search demand-on
 
 returns-2 : tie.Need-returns-2
+unfolding demandOf
 returns-2 c = search demand-off
 
 pub demand-spec : {M : Type 1} → statement M

@@ -16,19 +16,19 @@ cast-result-2 : tie.Need-cast-result-2
 cast-result-2 c = search needs
 
 returns : tie.Need-returns
-returns c = slope-0 _ _ (c .match .keys1)
+returns c = search slope-0
 
 returns-2 : tie.Need-returns-2
-returns-2 c = slope-1 _ _ (c .match .keys2)
+returns-2 c = search slope-1
 
 returns-3 : tie.Need-returns-3
-returns-3 c = slope-2 _ _ (c .match .keys3)
+returns-3 c = search slope-2
 
 returns-4 : tie.Need-returns-4
-returns-4 c = slope-3 _ _ (c .match .keys4)
+returns-4 c = search slope-3
 
 returns-5 : tie.Need-returns-5
-returns-5 c = slope-rest _ _ (c .match .rest)
+returns-5 c = search slope-rest
 
 pub slope-spec : {M : Type 1} → statement M
 slope-spec =

@@ -9,20 +9,20 @@ bit-requires c κs = search needs
 assigned-requires : tie.Need-assigned-requires
 assigned-requires c κs = search needs
 
-asked-of-requires : tie.Need-asked-of-requires
-asked-of-requires c κs = search needs
+demand-if-requires : tie.Need-demand-if-requires
+demand-if-requires c κs = search needs
 
 assigned-requires-2 : tie.Need-assigned-requires-2
 assigned-requires-2 c κs = search needs
 
-asked-of-requires-2 : tie.Need-asked-of-requires-2
-asked-of-requires-2 c κs = search needs
+demand-if-requires-2 : tie.Need-demand-if-requires-2
+demand-if-requires-2 c κs = search needs
 
 assigned-requires-3 : tie.Need-assigned-requires-3
 assigned-requires-3 c κs = search needs
 
-asked-of-requires-3 : tie.Need-asked-of-requires-3
-asked-of-requires-3 c κs = search needs
+demand-if-requires-3 : tie.Need-demand-if-requires-3
+demand-if-requires-3 c κs = search needs
 
 larger-requires : tie.Need-larger-requires
 larger-requires c κs = search needs
@@ -48,11 +48,11 @@ target-spec =
     (tie.spec
     bit-requires
     assigned-requires
-    asked-of-requires
+    demand-if-requires
     assigned-requires-2
-    asked-of-requires-2
+    demand-if-requires-2
     assigned-requires-3
-    asked-of-requires-3
+    demand-if-requires-3
     larger-requires
     larger-requires-2
     speed-code-requires

@@ -1,5 +1,5 @@
-use borrow.Author.Tests.{ne-eqb}
-use Rattle.drive.specs.Ramp.{rateOf}
+use Rattle.rules.specs.Duties.{rateOf}
+use Rattle.integer.proofs.CodeLaws.{rest-is}
 use Rattle.drive.proofs.ramp_rate.Statement.{statement}
 use Rattle.drive.proofs.ramp_rate.Tie as tie
 
@@ -17,7 +17,7 @@ returns-3 c = simp (c .match .keys3)
 
 returns-4 : tie.Need-returns-4
 unfolding rateOf
-returns-4 c = simp (ne-eqb _ _ (c .match .rest .0 .0 .1), ne-eqb _ _ (c .match .rest .0 .1), ne-eqb _ _ (c .match .rest .1))
+returns-4 c = search rest-is
 
 pub ramp-rate-spec : {M : Type 1} → statement M
 ramp-rate-spec = tie.close (tie.spec returns returns-2 returns-3 returns-4)

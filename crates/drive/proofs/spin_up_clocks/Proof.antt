@@ -1,5 +1,5 @@
-use borrow.Author.Tests.{ne-eqb}
-use Rattle.drive.specs.Drive.{spinUpOf}
+use Rattle.rules.specs.Duties.{spinUpOf}
+use Rattle.integer.proofs.CodeLaws.{rest-is}
 use Rattle.drive.proofs.spin_up_clocks.Statement.{statement}
 use Rattle.drive.proofs.spin_up_clocks.Tie as tie
 
@@ -33,9 +33,7 @@ returns-7 c = simp (c .match .keys7)
 
 returns-8 : tie.Need-returns-8
 unfolding spinUpOf
-returns-8 c = simp (ne-eqb _ _ (c .match .rest .0 .0 .0 .0 .0 .0 .1), ne-eqb _ _ (c .match .rest .0 .0 .0 .0 .0 .1), ne-eqb _ _ (c .match .rest .0 .0 .0 .0 .1), ne-eqb _ _ (c .match .rest .0 .0 .0 .1), ne-eqb _ _ (c .match .rest .0 .0 .1), ne-eqb _ _ (c .match .rest .0 .1), ne-eqb _ _ (c .match .rest .1))
+returns-8 c = search rest-is
 
 pub spin-up-clocks-spec : {M : Type 1} → statement M
-spin-up-clocks-spec =
-    tie.close
-    (tie.spec returns returns-2 returns-3 returns-4 returns-5 returns-6 returns-7 returns-8)
+spin-up-clocks-spec = tie.close (tie.spec returns returns-2 returns-3 returns-4 returns-5 returns-6 returns-7 returns-8)

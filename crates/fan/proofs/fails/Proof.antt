@@ -2,8 +2,14 @@ use borrow.Author.Needs.{needs}
 use Rattle.fan.proofs.fails.Statement.{statement}
 use Rattle.fan.proofs.fails.Tie as tie
 
+fan-registers-of-requires : tie.Need-fan-registers-of-requires
+fan-registers-of-requires c κs = search needs
+
 judges-requires : tie.Need-judges-requires
 judges-requires c κs = search needs
+
+byte-in-requires : tie.Need-byte-in-requires
+byte-in-requires c κs = search needs
 
 failed-requires : tie.Need-failed-requires
 failed-requires c κs = search needs
@@ -12,4 +18,6 @@ returns : tie.Need-returns
 returns c = cc
 
 pub fails-spec : {M : Type 1} → statement M
-fails-spec = tie.close (tie.spec judges-requires failed-requires returns)
+fails-spec =
+    tie.close
+    (tie.spec fan-registers-of-requires judges-requires byte-in-requires failed-requires returns)

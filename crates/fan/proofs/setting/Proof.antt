@@ -1,13 +1,19 @@
-use Rattle.fan.specs.Fans.{settingOf}
+use Rattle.fan.proofs.Laws.{setting-is}
 use borrow.Author.Needs.{needs}
 use Rattle.fan.proofs.setting.Statement.{statement}
 use Rattle.fan.proofs.setting.Tie as tie
 
+fan-registers-of-requires : tie.Need-fan-registers-of-requires
+fan-registers-of-requires c κs = search needs
+
 output-enabled-requires : tie.Need-output-enabled-requires
 output-enabled-requires c κs = search needs
 
-is-overridden-requires : tie.Need-is-overridden-requires
-is-overridden-requires c κs = search needs
+therm-requires : tie.Need-therm-requires
+therm-requires c κs = search needs
+
+overridden-requires : tie.Need-overridden-requires
+overridden-requires c κs = search needs
 
 filter-enabled-requires : tie.Need-filter-enabled-requires
 filter-enabled-requires c κs = search needs
@@ -22,15 +28,16 @@ spin-up-clocks-requires : tie.Need-spin-up-clocks-requires
 spin-up-clocks-requires c κs = search needs
 
 returns : tie.Need-returns
-unfolding settingOf
-returns c = rw (c .spin-up-clocks .ensures, c .before .ramp-rate .ensures, c .before .before .fan-target .ensures, c .before .before .before .filter-enabled .ensures, c .before .before .before .before .is-overridden .ensures, c .before .before .before .before .before .output-enabled .ensures)
+returns c = search setting-is
 
 pub setting-spec : {M : Type 1} → statement M
 setting-spec =
     tie.close
     (tie.spec
+    fan-registers-of-requires
     output-enabled-requires
-    is-overridden-requires
+    therm-requires
+    overridden-requires
     filter-enabled-requires
     fan-target-requires
     ramp-rate-requires

@@ -1,7 +1,10 @@
-use borrow.Author.Tests.{ne-eqb}
+use Rattle.judge.proofs.Laws.{read-only-looked, read-only-none}
 use borrow.Author.Needs.{needs}
 use Rattle.judge.proofs.read_only.Statement.{statement}
 use Rattle.judge.proofs.read_only.Tie as tie
+
+is-a-requires : tie.Need-is-a-requires
+is-a-requires c κs = search needs
 
 cast-read-only-at : tie.Need-cast-read-only-at
 cast-read-only-at c = search needs
@@ -10,10 +13,11 @@ read-only-at-requires : tie.Need-read-only-at-requires
 read-only-at-requires c κs = search needs
 
 returns : tie.Need-returns
-returns c = rw (c .before .before .if1 .taken, c .read-only-at .ensures)
+returns c = search read-only-looked
 
 returns-2 : tie.Need-returns-2
-returns-2 c = rw (ne-eqb _ 1 (c .if1 .left))
+returns-2 c = search read-only-none
 
 pub read-only-spec : {M : Type 1} → statement M
-read-only-spec = tie.close (tie.spec cast-read-only-at read-only-at-requires returns returns-2)
+read-only-spec =
+    tie.close (tie.spec is-a-requires cast-read-only-at read-only-at-requires returns returns-2)

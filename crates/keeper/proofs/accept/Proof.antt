@@ -9,8 +9,11 @@ data-for-requires c κs = search needs
 chip-after-requires : tie.Need-chip-after-requires
 chip-after-requires c κs = search needs
 
+shown-requires : tie.Need-shown-requires
+shown-requires c κs = search needs
+
 returns : tie.Need-returns
 returns c = search accept-is
 
 pub accept-spec : {M : Type 1} → statement M
-accept-spec = tie.close (tie.spec data-for-requires chip-after-requires returns)
+accept-spec = tie.close (tie.spec data-for-requires chip-after-requires shown-requires returns)

@@ -6,11 +6,11 @@ use Rattle.keeper.proofs.decide.Tie as tie
 number-of-requires : tie.Need-number-of-requires
 number-of-requires c κs = search needs
 
-bytes-of-requires : tie.Need-bytes-of-requires
-bytes-of-requires c κs = search needs
-
 accept-requires : tie.Need-accept-requires
 accept-requires c κs = search needs
+
+shown-requires : tie.Need-shown-requires
+shown-requires c κs = search needs
 
 returns : tie.Need-returns
 returns c = search decide-done
@@ -20,4 +20,4 @@ returns-2 c = search decide-not
 
 pub decide-spec : {M : Type 1} → statement M
 decide-spec =
-    tie.close (tie.spec number-of-requires bytes-of-requires accept-requires returns returns-2)
+    tie.close (tie.spec number-of-requires accept-requires shown-requires returns returns-2)

@@ -4,20 +4,20 @@ use mathlib.Core.Path.{_≡_, refl}
 use native.Mathlib.Omega.{arith}
 use lib.ListN.{length}
 use lib.Seq.{sets}
-use Rattle.keeper.specs.Keeping.{valuesFrom}
+use Rattle.keeper.specs.Keeping.{imageFrom}
 use Rattle.keeper.proofs.Laws.{again-length, fill-more, filled}
 use Rattle.keeper.proofs.fill.Statement.{statement}
 use Rattle.keeper.proofs.fill.Tie as tie
 
 abbrev Inv-loop : tie.InvT-loop
 Inv-loop c buffer₀ a₀ buffer a =
-    (a ≤ 64) × (64 ≤ length buffer₀) × (length buffer ≡ length buffer₀) × (buffer ≡ sets buffer₀ 0 (valuesFrom 0 a c))
+    (a ≤ 64) × (64 ≤ length buffer₀) × (length buffer ≡ length buffer₀) × (buffer ≡ sets buffer₀ 0 (imageFrom 0 a c))
 
 abbrev μ-loop : tie.MeasureT-loop
 μ-loop c buffer₀ a₀ buffer a = 64 - a
 
 loop-holds : tie.Need-loop-holds Inv-loop μ-loop
-unfolding valuesFrom
+unfolding imageFrom
 loop-holds c = (omega arith, omega arith, refl, refl)
 
 value-at-requires : tie.Need-value-at-requires Inv-loop μ-loop

@@ -6,8 +6,8 @@ use Rattle.keeper.proofs.step.Tie as tie
 chip-in-requires : tie.Need-chip-in-requires
 chip-in-requires c κs = search needs
 
-plain-of-requires : tie.Need-plain-of-requires
-plain-of-requires c κs = search needs
+input-of-requires : tie.Need-input-of-requires
+input-of-requires c κs = search needs
 
 is-on-requires : tie.Need-is-on-requires
 is-on-requires c κs = search needs
@@ -29,7 +29,7 @@ step-spec =
     tie.close
     (tie.spec
     chip-in-requires
-    plain-of-requires
+    input-of-requires
     is-on-requires
     standing-requires
     reply-requires

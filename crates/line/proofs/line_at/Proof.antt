@@ -1,5 +1,5 @@
 use borrow.Author.Needs.{needs}
-use Rattle.line.proofs.Lines.{end-from, end-within, line-part, line-past}
+use Rattle.line.proofs.Lines.{end-from, end-within, line-part, line-past, lies-past, lies-at}
 use Rattle.line.proofs.line_at.Statement.{statement}
 use Rattle.line.proofs.line_at.Tie as tie
 
@@ -13,7 +13,7 @@ part-result-end : tie.Need-part-result-end
 part-result-end c = search needs
 
 returns : tie.Need-returns
-returns c = search line-past
+returns c = (search line-past, search lies-past)
 
 line-end-requires : tie.Need-line-end-requires
 line-end-requires c κs = search needs
@@ -28,7 +28,7 @@ part-result-end-2 : tie.Need-part-result-end-2
 part-result-end-2 c = search (end-within, needs)
 
 returns-2 : tie.Need-returns-2
-returns-2 c = search line-part
+returns-2 c = (search line-part, search lies-at)
 
 pub line-at-spec : {M : Type 1} → statement M
 line-at-spec =

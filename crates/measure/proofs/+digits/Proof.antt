@@ -1,5 +1,5 @@
 use native.Mathlib.Omega.{arith}
-use Rattle.decimal.proofs.Laws.{small-length, decimal-length, word-width}
+use Rattle.measure.proofs.Laws.{one-digit, more-digits, ten-digits}
 use Prim.Native.Nat.{ℕ, _<_}
 use borrow.Fn.Kinds.{In}
 use borrow.Fn.PlainCycle.{Measures, is, falls, and}
@@ -20,7 +20,7 @@ digits-below t = and 0 digits-kinds.ps (falls 0 digits-kinds.ps _<_ μ-digits t)
 
 digits-returns :
     (t : ℕ) → digits-lts.Need-returns (digits-below t, digits.Post) (digits-at t) digits.Post
-digits-returns t c = omega (arith, small-length _ (c .if1 .taken))
+digits-returns t c = (search one-digit, omega arith)
 
 digits-digits-requires :
     (t : ℕ) →
@@ -33,7 +33,7 @@ digits-add-result t c = omega arith
 
 digits-returns-2 :
     (t : ℕ) → digits-lts.Need-returns-2 (digits-below t, digits.Post) (digits-at t) digits.Post
-digits-returns-2 t c = omega (arith, decimal-length _ (c .before .if1 .left), word-width _ (c .before .before .fits .n))
+digits-returns-2 t c = (search more-digits, search ten-digits)
 
 pub +digits-spec : {M : Type 1} → statement M
 +digits-spec =

@@ -1,5 +1,5 @@
 use native.Mathlib.Omega.{arith}
-use Rattle.measure.proofs.Laws.{duty-length}
+use Rattle.measure.proofs.Laws.{duty-sum}
 use borrow.Author.Needs.{needs}
 use Rattle.measure.proofs.duty_len.Statement.{statement}
 use Rattle.measure.proofs.duty_len.Tie as tie
@@ -17,7 +17,7 @@ add-result-2 : tie.Need-add-result-2
 add-result-2 c = search needs
 
 returns : tie.Need-returns
-returns c = omega (arith, duty-length (c .before .before .args .s))
+returns c = (search duty-sum, omega arith)
 
 pub duty-len-spec : {M : Type 1} → statement M
 duty-len-spec =

@@ -1,5 +1,5 @@
 use native.Mathlib.Omega.{arith}
-use Rattle.measure.proofs.Laws.{entry-length}
+use Rattle.measure.proofs.Laws.{entry-sum}
 use borrow.Author.Needs.{needs}
 use Rattle.measure.proofs.entry_len.Statement.{statement}
 use Rattle.measure.proofs.entry_len.Tie as tie
@@ -20,7 +20,7 @@ add-result-2 : tie.Need-add-result-2
 add-result-2 c = search needs
 
 returns : tie.Need-returns
-returns c = omega (arith, entry-length (c .before .before .before .before .args .o))
+returns c = (search entry-sum, omega arith)
 
 pub entry-len-spec : {M : Type 1} → statement M
 entry-len-spec =

@@ -1,5 +1,5 @@
 use native.Mathlib.Omega.{arith}
-use Rattle.measure.proofs.Laws.{malformed-length}
+use Rattle.measure.proofs.Laws.{malformed-sum}
 use borrow.Author.Needs.{needs}
 use Rattle.measure.proofs.malformed_len.Statement.{statement}
 use Rattle.measure.proofs.malformed_len.Tie as tie
@@ -11,7 +11,7 @@ add-result : tie.Need-add-result
 add-result c = search needs
 
 returns : tie.Need-returns
-returns c = omega (arith, malformed-length (c .before .args .line))
+returns c = (search malformed-sum, omega arith)
 
 pub malformed-len-spec : {M : Type 1} → statement M
 malformed-len-spec = tie.close (tie.spec digits-requires add-result returns)

@@ -1,5 +1,5 @@
 use native.Mathlib.Omega.{arith}
-use Rattle.measure.proofs.Laws.{pin-length}
+use Rattle.measure.proofs.Laws.{pin-sum}
 use borrow.Author.Needs.{needs}
 use Rattle.measure.proofs.pin_len.Statement.{statement}
 use Rattle.measure.proofs.pin_len.Tie as tie
@@ -23,7 +23,7 @@ add-result-3 : tie.Need-add-result-3
 add-result-3 c = search needs
 
 returns : tie.Need-returns
-returns c = omega (arith, pin-length (c .before .before .before .args .s))
+returns c = (search pin-sum, omega arith)
 
 pub pin-len-spec : {M : Type 1} → statement M
 pin-len-spec =

@@ -1,5 +1,5 @@
 use native.Mathlib.Omega.{arith}
-use Rattle.measure.proofs.Laws.{reply-length-as}
+use Rattle.measure.proofs.Laws.{reply-sum}
 use borrow.Author.Needs.{needs}
 use Rattle.measure.proofs.reply_len.Statement.{statement}
 use Rattle.measure.proofs.reply_len.Tie as tie
@@ -23,7 +23,7 @@ add-result-2 : tie.Need-add-result-2
 add-result-2 c = search needs
 
 returns : tie.Need-returns
-returns c = omega (arith, reply-length-as (c .before .before .before .before .args .a) (c .before .before .before .number-of .ensures) (c .before .data-of .ensures))
+returns c = (search reply-sum, omega arith)
 
 pub reply-len-spec : {M : Type 1} → statement M
 reply-len-spec =

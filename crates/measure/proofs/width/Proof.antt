@@ -1,11 +1,10 @@
-use Rattle.decimal.proofs.Laws.{small-length}
 use native.Mathlib.Omega.{arith}
-use Rattle.measure.proofs.Laws.{width-two, width-three}
+use Rattle.measure.proofs.Laws.{one-digit, width-two, width-three}
 use Rattle.measure.proofs.width.Statement.{statement}
 use Rattle.measure.proofs.width.Tie as tie
 
 returns : tie.Need-returns
-returns c = omega (arith, small-length _ (c .if1 .taken))
+returns c = (search one-digit, omega arith)
 
 returns-2 : tie.Need-returns-2
 returns-2 c = (search width-two, omega arith)

@@ -1,4 +1,5 @@
 use Rattle.output.specs.Outputs.{statusOf}
+use Rattle.output.proofs.Laws.{status-one, status-two}
 use borrow.Author.Needs.{needs}
 use Rattle.output.proofs.status.Statement.{statement}
 use Rattle.output.proofs.status.Tie as tie
@@ -17,11 +18,11 @@ pack-requires-2 c κs = search needs
 
 returns : tie.Need-returns
 unfolding statusOf
-returns c = rw (c .before .enum-told .given .1) (c .pack .ensures)
+returns c = search status-one
 
 returns-2 : tie.Need-returns-2
 unfolding statusOf
-returns-2 c = rw (c .before .enum-told2 .given .1) (c .pack2 .ensures)
+returns-2 c = search status-two
 
 pub status-spec : {M : Type 1} → statement M
 status-spec =

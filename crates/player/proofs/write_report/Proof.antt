@@ -7,13 +7,18 @@ use lib.ListN.{length, take}
 use lib.Seq.{sets}
 use Rattle.player.specs.Played.{playedFrom, playedOf}
 use Rattle.player.proofs.PlayedLaws.{next-within, next-less, next-line}
-use Rattle.player.proofs.GrowLaws.{write-start, write-end-at, write-end-held, wrong-room, wrong-end-at, wrong-end-held, event-room, event-inv, event-held, event-same, event-within}
+use Rattle.player.proofs.GrowLaws.{write-start, write-end-at, write-end-held, wrong-end-at, wrong-end-held, event-inv, event-held, event-same, event-within}
 use Rattle.player.proofs.write_report.Statement.{statement}
 use Rattle.player.proofs.write_report.Tie as tie
 
 abbrev Inv-loop : tie.InvT-loop
 Inv-loop text report₀ k₀ at₀ out₀ line₀ report k at out line =
-    (at ≤ length text) × (line ≤ at + 1) × (length report ≡ length report₀) × (out ≤ length report) × (report ≡ sets report₀ 0 (take out report)) × (playedOf text ≡ take out report ++ playedFrom (length text - at) text at line k)
+    (at ≤ length text)
+    × (line ≤ at + 1)
+    × (length report ≡ length report₀)
+    × (out ≤ length report)
+    × (report ≡ sets report₀ 0 (take out report))
+    × (playedOf text ≡ take out report ++ playedFrom (length text - at) text at line k)
 
 abbrev μ-loop : tie.MeasureT-loop
 μ-loop text report₀ k₀ at₀ out₀ line₀ report k at out line = length text - at
@@ -33,8 +38,11 @@ enum-known-reading c = search needs
 step-requires : tie.Need-step-requires Inv-loop μ-loop
 step-requires c κs = search needs
 
-put-lines-requires : tie.Need-put-lines-requires Inv-loop μ-loop
-put-lines-requires c κs = search event-room
+put-entry-requires : tie.Need-put-entry-requires Inv-loop μ-loop
+put-entry-requires c κs = search needs
+
+end-of-requires : tie.Need-end-of-requires Inv-loop μ-loop
+end-of-requires c κs = search needs
 
 add-line : tie.Need-add-line Inv-loop μ-loop
 add-line c = search needs
@@ -48,14 +56,17 @@ loop-again c = (search next-within, search next-line, search event-same, search 
 enum-known-reading-2 : tie.Need-enum-known-reading-2 Inv-loop μ-loop
 enum-known-reading-2 c = search needs
 
-cast-put-ending : tie.Need-cast-put-ending Inv-loop μ-loop
-cast-put-ending c = search needs
+cast-put-malformed : tie.Need-cast-put-malformed Inv-loop μ-loop
+cast-put-malformed c = search needs
 
-add-put-ending : tie.Need-add-put-ending Inv-loop μ-loop
-add-put-ending c = search needs
+add-put-malformed : tie.Need-add-put-malformed Inv-loop μ-loop
+add-put-malformed c = search needs
 
-put-ending-requires : tie.Need-put-ending-requires Inv-loop μ-loop
-put-ending-requires c κs = search wrong-room
+put-malformed-requires : tie.Need-put-malformed-requires Inv-loop μ-loop
+put-malformed-requires c κs = search needs
+
+end-of-requires-2 : tie.Need-end-of-requires-2 Inv-loop μ-loop
+end-of-requires-2 c κs = search needs
 
 same-length : tie.Need-same-length Inv-loop μ-loop
 same-length c = search needs
@@ -80,14 +91,16 @@ write-report-spec =
     event-at-requires
     enum-known-reading
     step-requires
-    put-lines-requires
+    put-entry-requires
+    end-of-requires
     add-line
     loop-less
     loop-again
     enum-known-reading-2
-    cast-put-ending
-    add-put-ending
-    put-ending-requires
+    cast-put-malformed
+    add-put-malformed
+    put-malformed-requires
+    end-of-requires-2
     same-length
     returns
     same-length-2

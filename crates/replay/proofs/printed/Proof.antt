@@ -1,4 +1,4 @@
-use Rattle.replay.proofs.Laws.{end-is, held-is, counts-is, room-still, ended-is, ended-held, ended-counts}
+use Rattle.replay.proofs.Laws.{end-is, held-is, counts-is, refused-is, refused-held, refused-counts}
 use borrow.Author.Needs.{needs}
 use Rattle.replay.proofs.printed.Statement.{statement}
 use Rattle.replay.proofs.printed.Tie as tie
@@ -12,8 +12,14 @@ enum-known-put c = search needs
 enum-told : tie.Need-enum-told
 enum-told c = search needs
 
-too-long-requires : tie.Need-too-long-requires
-too-long-requires c κs = search room-still
+number-of-requires : tie.Need-number-of-requires
+number-of-requires c κs = search needs
+
+put-number-requires : tie.Need-put-number-requires
+put-number-requires c κs = search needs
+
+end-of-requires : tie.Need-end-of-requires
+end-of-requires c κs = search needs
 
 same-length : tie.Need-same-length
 same-length c = search needs
@@ -25,7 +31,7 @@ same-length-2 : tie.Need-same-length-2
 same-length-2 c = search needs
 
 returns-2 : tie.Need-returns-2
-returns-2 c = (search ended-is, (search ended-counts, search ended-held))
+returns-2 c = (search refused-is, (search refused-counts, search refused-held))
 
 pub printed-spec : {M : Type 1} → statement M
 printed-spec =
@@ -34,7 +40,9 @@ printed-spec =
     replay-requires
     enum-known-put
     enum-told
-    too-long-requires
+    number-of-requires
+    put-number-requires
+    end-of-requires
     same-length
     returns
     same-length-2

@@ -1,7 +1,7 @@
 use native.Mathlib.Omega.{arith}
 use Rattle.buffer.proofs.Laws.{then, end-then}
 use Rattle.report.specs.Report.{dutyText}
-use Rattle.report.proofs.Laws.{near}
+use Rattle.report.proofs.Laws.{near, within-two}
 use borrow.Author.Needs.{needs}
 use Rattle.report.proofs.duties.Statement.{statement}
 use Rattle.report.proofs.duties.Tie as tie
@@ -29,7 +29,7 @@ same-length c = search needs
 
 returns : tie.Need-returns
 unfolding dutyText
-returns c = (search end-then, search then)
+returns c = ((search end-then, search within-two), search then)
 
 pub duties-spec : {M : Type 1} → statement M
 duties-spec =

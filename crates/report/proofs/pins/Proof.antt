@@ -1,7 +1,7 @@
 use native.Mathlib.Omega.{arith}
 use Rattle.buffer.proofs.Laws.{then, end-then}
 use Rattle.report.specs.Report.{pinText}
-use Rattle.report.proofs.Laws.{near, near-two}
+use Rattle.report.proofs.Laws.{near, near-two, within-three}
 use borrow.Author.Needs.{needs}
 use Rattle.report.proofs.pins.Statement.{statement}
 use Rattle.report.proofs.pins.Tie as tie
@@ -38,7 +38,7 @@ same-length c = search needs
 
 returns : tie.Need-returns
 unfolding pinText
-returns c = (search end-then, search then)
+returns c = ((search end-then, search within-three), search then)
 
 pub pins-spec : {M : Type 1} → statement M
 pins-spec =

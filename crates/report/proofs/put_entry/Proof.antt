@@ -1,4 +1,4 @@
-use Rattle.report.proofs.Laws.{pins-near, duties-near, entry-room, entry-aside}
+use Rattle.report.proofs.Laws.{entry-room, entry-aside}
 use Rattle.buffer.proofs.Laws.{put-as, held-as}
 use borrow.Author.Needs.{needs}
 use Rattle.report.proofs.put_entry.Statement.{statement}
@@ -14,13 +14,13 @@ slice-aggregate-pins : tie.Need-slice-aggregate-pins
 slice-aggregate-pins c = search needs
 
 pins-requires : tie.Need-pins-requires
-pins-requires c κs = search pins-near
+pins-requires c κs = search needs
 
 slice-aggregate-duties : tie.Need-slice-aggregate-duties
 slice-aggregate-duties c = search needs
 
 duties-requires : tie.Need-duties-requires
-duties-requires c κs = search duties-near
+duties-requires c κs = search needs
 
 sub-put-whole : tie.Need-sub-put-whole
 sub-put-whole c = search needs

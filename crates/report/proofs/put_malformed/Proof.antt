@@ -6,11 +6,11 @@ use borrow.Author.Needs.{needs}
 use Rattle.report.proofs.put_malformed.Statement.{statement}
 use Rattle.report.proofs.put_malformed.Tie as tie
 
+refusal-number-requires : tie.Need-refusal-number-requires
+refusal-number-requires c κs = search needs
+
 slice-aggregate-field : tie.Need-slice-aggregate-field
 slice-aggregate-field c = search needs
-
-number-of-requires : tie.Need-number-of-requires
-number-of-requires c κs = search needs
 
 cast-field : tie.Need-cast-field
 cast-field c = search needs
@@ -52,8 +52,8 @@ pub put-malformed-spec : {M : Type 1} → statement M
 put-malformed-spec =
     tie.close
     (tie.spec
+    refusal-number-requires
     slice-aggregate-field
-    number-of-requires
     cast-field
     slice-aggregate-field-2
     field-requires

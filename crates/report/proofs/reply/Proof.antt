@@ -1,6 +1,6 @@
 use Prim.Native.Nat.{_≤_}
 use native.Mathlib.Omega.{arith}
-use Rattle.report.proofs.Laws.{near, reply-end, reply-put}
+use Rattle.report.proofs.Laws.{near, reply-end, reply-near, reply-put}
 use borrow.Author.Needs.{needs}
 use Rattle.report.proofs.reply.Statement.{statement}
 use Rattle.report.proofs.reply.Tie as tie
@@ -33,7 +33,7 @@ same-length : tie.Need-same-length
 same-length c = search needs
 
 returns : tie.Need-returns
-returns c = (search reply-end, search reply-put)
+returns c = ((search reply-end, search reply-near), search reply-put)
 
 pub reply-spec : {M : Type 1} → statement M
 reply-spec =

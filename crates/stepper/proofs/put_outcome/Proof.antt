@@ -1,5 +1,5 @@
-use borrow.Author.Needs.{needs}
 use Rattle.stepper.proofs.Laws.{put-is}
+use borrow.Author.Needs.{needs}
 use Rattle.stepper.proofs.put_outcome.Statement.{statement}
 use Rattle.stepper.proofs.put_outcome.Tie as tie
 

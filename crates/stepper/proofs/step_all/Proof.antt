@@ -5,17 +5,22 @@ use borrow.Author.Needs.{needs}
 use lib.ListN.{length}
 use lib.Seq.{sets}
 use Rattle.history.specs.Agreement.{run}
-use Rattle.stepper.specs.Steps.{takenFrom, firstEvents, outcomesOf}
-use Rattle.stepper.proofs.Laws.{numbers-left, room-fits, same-size, next-count, next-keeper, next-long, next-held, none-count, end-count, held-is, start-keeper, start-held, start-long, start-count}
+use Rattle.stepper.specs.Steps.{eventCountFrom, firstEvents, outcomesOf}
+use Rattle.stepper.proofs.Laws.{room-fits, same-size, next-count, next-keeper, next-long, next-held, none-count, end-count, held-is, start-keeper, start-held, start-long, start-count}
 use Rattle.stepper.proofs.step_all.Statement.{statement}
 use Rattle.stepper.proofs.step_all.Tie as tie
 
 abbrev Inv-loop : tie.InvT-loop
-Inv-loop events outcomes₀ end k₀ i₀ outcomes k i =
-    (i ≤ end) × (length outcomes ≡ length outcomes₀) × (k ≡ run (firstEvents i events)) × (outcomes ≡ sets outcomes₀ 0 (outcomesOf i events)) × (length (outcomesOf i events) ≡ 7 * i) × (takenFrom (end - i) i events ≡ takenFrom end 0 events)
+Inv-loop numbers outcomes₀ end k₀ i₀ outcomes k i =
+    (i ≤ end)
+    × (length outcomes ≡ length outcomes₀)
+    × (k ≡ run (firstEvents i numbers))
+    × (outcomes ≡ sets outcomes₀ 0 (outcomesOf i numbers))
+    × (length (outcomesOf i numbers) ≡ 7 * i)
+    × (eventCountFrom (end - i) i numbers ≡ eventCountFrom end 0 numbers)
 
 abbrev μ-loop : tie.MeasureT-loop
-μ-loop events outcomes₀ end k₀ i₀ outcomes k i = end - i
+μ-loop numbers outcomes₀ end k₀ i₀ outcomes k i = end - i
 
 off-requires : tie.Need-off-requires Inv-loop μ-loop
 off-requires c κs = search needs
@@ -23,17 +28,20 @@ off-requires c κs = search needs
 loop-holds : tie.Need-loop-holds Inv-loop μ-loop
 loop-holds c = (omega arith, refl, search start-keeper, search start-held, search start-long, search start-count)
 
-event-at-requires : tie.Need-event-at-requires Inv-loop μ-loop
-event-at-requires c κs = search numbers-left
+event-numbered-requires : tie.Need-event-numbered-requires Inv-loop μ-loop
+event-numbered-requires c κs = search needs
 
-enum-known-taken : tie.Need-enum-known-taken Inv-loop μ-loop
-enum-known-taken c = search needs
+enum-known-parsed : tie.Need-enum-known-parsed Inv-loop μ-loop
+enum-known-parsed c = search needs
 
-mul-step-into : tie.Need-mul-step-into Inv-loop μ-loop
-mul-step-into c = search (room-fits, needs)
+step-requires : tie.Need-step-requires Inv-loop μ-loop
+step-requires c κs = search needs
 
-step-into-requires : tie.Need-step-into-requires Inv-loop μ-loop
-step-into-requires c κs = search needs
+mul-put-outcome : tie.Need-mul-put-outcome Inv-loop μ-loop
+mul-put-outcome c = search (room-fits, needs)
+
+put-outcome-requires : tie.Need-put-outcome-requires Inv-loop μ-loop
+put-outcome-requires c κs = search needs
 
 add-i : tie.Need-add-i Inv-loop μ-loop
 add-i c = search needs
@@ -67,10 +75,11 @@ step-all-spec =
     μ-loop
     off-requires
     loop-holds
-    event-at-requires
-    enum-known-taken
-    mul-step-into
-    step-into-requires
+    event-numbered-requires
+    enum-known-parsed
+    step-requires
+    mul-put-outcome
+    put-outcome-requires
     add-i
     loop-less
     loop-again

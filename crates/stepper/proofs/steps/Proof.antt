@@ -11,7 +11,7 @@ returns-2 : tie.Need-returns-2
 returns-2 c = (search short-refused, search short-held)
 
 step-all-requires : tie.Need-step-all-requires
-step-all-requires c κs = (omega arith, omega arith)
+step-all-requires c κs = omega arith
 
 mul-t4 : tie.Need-mul-t4
 mul-t4 c = search (all-fits, needs)

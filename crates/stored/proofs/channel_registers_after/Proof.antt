@@ -9,20 +9,20 @@ offset-at-requires c κs = search needs
 stored-after-requires : tie.Need-stored-after-requires
 stored-after-requires c κs = search needs
 
-high-at-requires : tie.Need-high-at-requires
-high-at-requires c κs = search needs
+high-limit-at-requires : tie.Need-high-limit-at-requires
+high-limit-at-requires c κs = search needs
 
 stored-after-requires-2 : tie.Need-stored-after-requires-2
 stored-after-requires-2 c κs = search needs
 
-low-at-requires : tie.Need-low-at-requires
-low-at-requires c κs = search needs
+low-limit-at-requires : tie.Need-low-limit-at-requires
+low-limit-at-requires c κs = search needs
 
 stored-after-requires-3 : tie.Need-stored-after-requires-3
 stored-after-requires-3 c κs = search needs
 
-therm-at-requires : tie.Need-therm-at-requires
-therm-at-requires c κs = search needs
+therm-limit-at-requires : tie.Need-therm-limit-at-requires
+therm-limit-at-requires c κs = search needs
 
 stored-after-requires-4 : tie.Need-stored-after-requires-4
 stored-after-requires-4 c κs = search needs
@@ -43,11 +43,11 @@ channel-registers-after-spec =
     (tie.spec
     offset-at-requires
     stored-after-requires
-    high-at-requires
+    high-limit-at-requires
     stored-after-requires-2
-    low-at-requires
+    low-limit-at-requires
     stored-after-requires-3
-    therm-at-requires
+    therm-limit-at-requires
     stored-after-requires-4
     control-at-requires
     stored-after-requires-5

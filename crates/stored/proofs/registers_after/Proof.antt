@@ -37,19 +37,7 @@ fan-registers-after-requires-2 : tie.Need-fan-registers-after-requires-2
 fan-registers-after-requires-2 c κs = search needs
 
 returns : tie.Need-returns
-returns c =
-    together _ _
-    (c .before .before .before .before .before .before .before .before .before .before .stored-after .ensures)
-    (c .before .before .before .before .before .before .before .before .before .stored-after2 .ensures)
-    (c .before .before .before .before .before .before .before .before .stored-after3 .ensures)
-    (c .before .before .before .before .before .before .before .stored-after4 .ensures)
-    (c .before .before .before .before .before .before .stored-after5 .ensures)
-    (c .before .before .before .before .before .stored-after6 .ensures)
-    (c .before .before .before .before .channel-registers-after .ensures)
-    (c .before .before .before .channel-registers-after2 .ensures)
-    (c .before .before .channel-registers-after3 .ensures)
-    (c .before .fan-registers-after .ensures)
-    (c .fan-registers-after2 .ensures)
+returns c = search (together, c .before .before .before .before .before)
 
 pub registers-after-spec : {M : Type 1} → statement M
 registers-after-spec =

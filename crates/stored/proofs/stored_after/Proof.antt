@@ -18,6 +18,9 @@ is-write-requires c κs = search needs
 mask-at-requires : tie.Need-mask-at-requires
 mask-at-requires c κs = search needs
 
+byte-in-requires : tie.Need-byte-in-requires
+byte-in-requires c κs = search needs
+
 merged-requires : tie.Need-merged-requires
 merged-requires c κs = search needs
 
@@ -26,6 +29,9 @@ returns-2 c = search stored-written
 
 is-count-at-requires : tie.Need-is-count-at-requires
 is-count-at-requires c κs = search needs
+
+byte-in-requires-2 : tie.Need-byte-in-requires-2
+byte-in-requires-2 c κs = search needs
 
 returns-3 : tie.Need-returns-3
 returns-3 c = search stored-counted
@@ -42,8 +48,10 @@ stored-after-spec =
     returns
     is-write-requires
     mask-at-requires
+    byte-in-requires
     merged-requires
     returns-2
     is-count-at-requires
+    byte-in-requires-2
     returns-3
     returns-4)

@@ -15,4 +15,5 @@ returns : tie.Need-returns
 returns c = cc
 
 pub stores-nothing-spec : {M : Type 1} → statement M
-stores-nothing-spec = tie.close (tie.spec is-restart-requires is-a-requires is-a-requires-2 returns)
+stores-nothing-spec =
+    tie.close (tie.spec is-restart-requires is-a-requires is-a-requires-2 returns)

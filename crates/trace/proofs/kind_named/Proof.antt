@@ -1,123 +1,55 @@
-use lib.ListN.{drop}
+use Prim.Native.Nat.{_≤_, _-_}
+use mathlib.Core.Path.{_≡_}
+use native.Mathlib.Omega.{arith}
 use borrow.Author.Needs.{needs}
+use lib.ListN.{length, drop}
 use Rattle.event.specs.Kinds.{kinds}
-use Rattle.trace.proofs.Words.{from-all, hit, skip, no-more, by-way}
+use Rattle.trace.specs.Words.{kindIn, kindNamed}
+use Rattle.trace.proofs.Words.{from-all, hit, miss, no-more}
 use Rattle.trace.proofs.kind_named.Statement.{statement}
 use Rattle.trace.proofs.kind_named.Tie as tie
 
-slice-aggregate-same : tie.Need-slice-aggregate-same
-slice-aggregate-same c = search needs
+abbrev Inv-loop : tie.InvT-loop
+Inv-loop l place₀ place = (place ≤ length kinds) × (kindNamed l ≡ kindIn (drop place kinds) l)
 
-same-requires : tie.Need-same-requires
-same-requires c κs = search needs
+abbrev μ-loop : tie.MeasureT-loop
+μ-loop l place₀ place = length kinds - place
 
-returns : tie.Need-returns
-returns c = search (from-all, hit, skip)
+loop-holds : tie.Need-loop-holds Inv-loop μ-loop
+loop-holds c = (omega arith, search from-all)
 
-slice-aggregate-same-2 : tie.Need-slice-aggregate-same-2
-slice-aggregate-same-2 c = search needs
+names-requires : tie.Need-names-requires Inv-loop μ-loop
+names-requires c κs = search needs
 
-same-requires-2 : tie.Need-same-requires-2
-same-requires-2 c κs = search needs
+kind-at-requires : tie.Need-kind-at-requires Inv-loop μ-loop
+kind-at-requires c κs = search needs
 
-returns-2 : tie.Need-returns-2
-returns-2 c = search (from-all, hit, skip)
+returns : tie.Need-returns Inv-loop μ-loop
+returns c = search hit
 
-slice-aggregate-same-3 : tie.Need-slice-aggregate-same-3
-slice-aggregate-same-3 c = search needs
+add-place : tie.Need-add-place Inv-loop μ-loop
+add-place c = omega arith
 
-same-requires-3 : tie.Need-same-requires-3
-same-requires-3 c κs = search needs
+loop-less : tie.Need-loop-less Inv-loop μ-loop
+loop-less c = omega arith
 
-returns-3 : tie.Need-returns-3
-returns-3 c = search (from-all, hit, skip)
+loop-again : tie.Need-loop-again Inv-loop μ-loop
+loop-again c = (omega arith, search miss)
 
-slice-aggregate-same-4 : tie.Need-slice-aggregate-same-4
-slice-aggregate-same-4 c = search needs
-
-same-requires-4 : tie.Need-same-requires-4
-same-requires-4 c κs = search needs
-
-returns-4 : tie.Need-returns-4
-returns-4 c = search (from-all, hit, skip)
-
-slice-aggregate-same-5 : tie.Need-slice-aggregate-same-5
-slice-aggregate-same-5 c = search needs
-
-same-requires-5 : tie.Need-same-requires-5
-same-requires-5 c κs = search needs
-
-returns-5 : tie.Need-returns-5
-returns-5 c = search (from-all, hit, skip) depth 10
-
-slice-aggregate-same-6 : tie.Need-slice-aggregate-same-6
-slice-aggregate-same-6 c = search needs
-
-same-requires-6 : tie.Need-same-requires-6
-same-requires-6 c κs = search needs
-
-returns-6 : tie.Need-returns-6
-returns-6 c = search (from-all, hit, skip) depth 10
-
-slice-aggregate-same-7 : tie.Need-slice-aggregate-same-7
-slice-aggregate-same-7 c = search needs
-
-same-requires-7 : tie.Need-same-requires-7
-same-requires-7 c κs = search needs
-
-returns-7 : tie.Need-returns-7
-returns-7 c = search (from-all, hit, skip) depth 10
-
-slice-aggregate-same-8 : tie.Need-slice-aggregate-same-8
-slice-aggregate-same-8 c = search needs
-
-same-requires-8 : tie.Need-same-requires-8
-same-requires-8 c κs = search needs
-
-returns-8 : tie.Need-returns-8
-returns-8 c = search (from-all, hit, skip) depth 10
-
-slice-aggregate-same-9 : tie.Need-slice-aggregate-same-9
-slice-aggregate-same-9 c = search needs
-
-same-requires-9 : tie.Need-same-requires-9
-same-requires-9 c κs = search needs
-
-returns-9 : tie.Need-returns-9
-returns-9 c = by-way _ (drop 5 kinds) (λ q. search (from-all, skip) depth 10) (search (hit, skip))
-
-returns-10 : tie.Need-returns-10
-returns-10 c = by-way _ (drop 5 kinds) (λ q. search (from-all, skip) depth 10) (search (skip, no-more))
+returns-2 : tie.Need-returns-2 Inv-loop μ-loop
+returns-2 c = search no-more
 
 pub kind-named-spec : {M : Type 1} → statement M
 kind-named-spec =
     tie.close
     (tie.spec
-    slice-aggregate-same
-    same-requires
+    Inv-loop
+    μ-loop
+    loop-holds
+    names-requires
+    kind-at-requires
     returns
-    slice-aggregate-same-2
-    same-requires-2
-    returns-2
-    slice-aggregate-same-3
-    same-requires-3
-    returns-3
-    slice-aggregate-same-4
-    same-requires-4
-    returns-4
-    slice-aggregate-same-5
-    same-requires-5
-    returns-5
-    slice-aggregate-same-6
-    same-requires-6
-    returns-6
-    slice-aggregate-same-7
-    same-requires-7
-    returns-7
-    slice-aggregate-same-8
-    same-requires-8
-    returns-8
-    slice-aggregate-same-9
-    same-requires-9
-    returns-9
-    returns-10)
+    add-place
+    loop-less
+    loop-again
+    returns-2)

@@ -10,17 +10,17 @@ line-end-requires c κs = search needs
 returns : tie.Need-returns
 returns c = search number-unended
 
-sub-value-of : tie.Need-sub-value-of
-sub-value-of c = search end-from
+sub-number-named : tie.Need-sub-number-named
+sub-number-named c = search end-from
 
-part-value-of-start : tie.Need-part-value-of-start
-part-value-of-start c = search (end-from, needs)
+part-number-named-start : tie.Need-part-number-named-start
+part-number-named-start c = search (end-from, needs)
 
-part-value-of-end : tie.Need-part-value-of-end
-part-value-of-end c = search needs
+part-number-named-end : tie.Need-part-number-named-end
+part-number-named-end c = search needs
 
-value-of-requires : tie.Need-value-of-requires
-value-of-requires c κs = search needs
+number-named-requires : tie.Need-number-named-requires
+number-named-requires c κs = search needs
 
 enum-known-d : tie.Need-enum-known-d
 enum-known-d c = search needs
@@ -43,10 +43,10 @@ number-line-spec =
     (tie.spec
     line-end-requires
     returns
-    sub-value-of
-    part-value-of-start
-    part-value-of-end
-    value-of-requires
+    sub-number-named
+    part-number-named-start
+    part-number-named-end
+    number-named-requires
     enum-known-d
     add-t13
     enum-told

@@ -1,4 +1,4 @@
-use Rattle.trace_writer.proofs.Laws.{digits-fit, number-fits, number-end, number-put}
+use Rattle.trace_writer.proofs.Laws.{digits-fit, number-fits, number-near, number-end, number-put}
 use borrow.Author.Needs.{needs}
 use Rattle.trace_writer.proofs.number_line.Statement.{statement}
 use Rattle.trace_writer.proofs.number_line.Tie as tie
@@ -25,7 +25,7 @@ same-length : tie.Need-same-length
 same-length c = search needs
 
 returns : tie.Need-returns
-returns c = (search number-end, search number-put)
+returns c = ((search number-end, search number-near), search number-put)
 
 pub number-line-spec : {M : Type 1} → statement M
 number-line-spec =

@@ -3,14 +3,20 @@ use borrow.Author.Needs.{needs}
 use Rattle.channel.proofs.status.high_bit_after.Statement.{statement}
 use Rattle.channel.proofs.status.high_bit_after.Tie as tie
 
+channel-registers-of-requires : tie.Need-channel-registers-of-requires
+channel-registers-of-requires c κs = search needs
+
 is-sample-requires : tie.Need-is-sample-requires
 is-sample-requires c κs = search needs
 
-measured-requires : tie.Need-measured-requires
-measured-requires c κs = search needs
+is-on-requires : tie.Need-is-on-requires
+is-on-requires c κs = search needs
 
-over-requires : tie.Need-over-requires
-over-requires c κs = search needs
+sampled-requires : tie.Need-sampled-requires
+sampled-requires c κs = search needs
+
+is-high-requires : tie.Need-is-high-requires
+is-high-requires c κs = search needs
 
 limit-bits-in-requires : tie.Need-limit-bits-in-requires
 limit-bits-in-requires c κs = search needs
@@ -29,9 +35,11 @@ pub high-bit-after-spec : {M : Type 1} → statement M
 high-bit-after-spec =
     tie.close
     (tie.spec
+    channel-registers-of-requires
     is-sample-requires
-    measured-requires
-    over-requires
+    is-on-requires
+    sampled-requires
+    is-high-requires
     limit-bits-in-requires
     clears-bit-requires
     bit-after-requires

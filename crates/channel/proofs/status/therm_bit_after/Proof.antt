@@ -6,6 +6,9 @@ use Rattle.channel.proofs.status.therm_bit_after.Tie as tie
 is-sample-requires : tie.Need-is-sample-requires
 is-sample-requires c κs = search needs
 
+is-on-requires : tie.Need-is-on-requires
+is-on-requires c κs = search needs
+
 therm-bit-in-requires : tie.Need-therm-bit-in-requires
 therm-bit-in-requires c κs = search needs
 
@@ -24,6 +27,7 @@ therm-bit-after-spec =
     tie.close
     (tie.spec
     is-sample-requires
+    is-on-requires
     therm-bit-in-requires
     clears-bit-requires
     bit-after-requires

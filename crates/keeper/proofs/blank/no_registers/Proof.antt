@@ -1,4 +1,4 @@
-use Rattle.keeper.proofs.Laws.{blank-settings}
+use Rattle.keeper.proofs.Laws.{blank-registers}
 use borrow.Author.Needs.{needs}
 use Rattle.keeper.proofs.blank.no_registers.Statement.{statement}
 use Rattle.keeper.proofs.blank.no_registers.Tie as tie
@@ -19,7 +19,7 @@ no-fan-registers-requires-2 : tie.Need-no-fan-registers-requires-2
 no-fan-registers-requires-2 c κs = search needs
 
 returns : tie.Need-returns
-returns c = search blank-settings
+returns c = search blank-registers
 
 pub no-registers-spec : {M : Type 1} → statement M
 no-registers-spec =

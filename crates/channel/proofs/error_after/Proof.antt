@@ -1,0 +1,19 @@
+use Rattle.channel.proofs.Laws.{error-powered, error-kept}
+use borrow.Author.Needs.{needs}
+use Rattle.channel.proofs.error_after.Statement.{statement}
+use Rattle.channel.proofs.error_after.Tie as tie
+
+is-a-requires : tie.Need-is-a-requires
+is-a-requires c κs = search needs
+
+error-in-requires : tie.Need-error-in-requires
+error-in-requires c κs = search needs
+
+returns : tie.Need-returns
+returns c = search error-powered
+
+returns-2 : tie.Need-returns-2
+returns-2 c = search error-kept
+
+pub error-after-spec : {M : Type 1} → statement M
+error-after-spec = tie.close (tie.spec is-a-requires error-in-requires returns returns-2)

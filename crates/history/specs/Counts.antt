@@ -1,0 +1,23 @@
+-- The engine's counts are those taken from the list: the run of failures, the clocks left of a spin-up, the ramp steps.
+use Prim.Native.Nat.{ℕ, min}
+use mathlib.Core.Path.{_≡_}
+use Rattle.part.specs.declared.FanId.{FanId}
+use Rattle.part.specs.declared.FanId.the-variants.{One, Two}
+use Rattle.rules.specs.Replies.{History, taken}
+use Rattle.rules.specs.Duties.{left, spin, duty, failures}
+use Rattle.fan.specs.declared.Fan.{Fan}
+use Rattle.keeper.specs.Keeping.{chipIn}
+use Rattle.history.specs.Agreement.{run}
+
+-- the engine's fan after the list
+abbrev pub fanIn : FanId → History → Fan
+fanIn One h = chipIn (run h) .fan1
+fanIn Two h = chipIn (run h) .fan2
+
+pub record Counts (h : History) : Type 0 where
+  -- the failed measurements in a row, held at 5
+  pub run : (f : FanId) → fanIn f h .run ≡ min 5 (failures f (taken h))
+  -- the clock events that its spin-up was given when it last began, less those accepted since
+  pub clocks : (f : FanId) → fanIn f h .drive .left ≡ left (spin f (taken h))
+  -- the duty, to which each accepted period of a filtered fan adds or from which it takes one step of the ramp
+  pub duty : (f : FanId) → fanIn f h .drive .duty ≡ duty f (taken h)

@@ -1,0 +1,22 @@
+use borrow.Author.Needs.{needs}
+use Rattle.judge.proofs.other_address.Statement.{statement}
+use Rattle.judge.proofs.other_address.Tie as tie
+
+is-a-requires : tie.Need-is-a-requires
+is-a-requires c κs = search needs
+
+is-a-requires-2 : tie.Need-is-a-requires-2
+is-a-requires-2 c κs = search needs
+
+is-a-requires-3 : tie.Need-is-a-requires-3
+is-a-requires-3 c κs = search needs
+
+cast-result : tie.Need-cast-result
+cast-result c = search needs
+
+returns : tie.Need-returns
+returns c = cc
+
+pub other-address-spec : {M : Type 1} → statement M
+other-address-spec =
+    tie.close (tie.spec is-a-requires is-a-requires-2 is-a-requires-3 cast-result returns)

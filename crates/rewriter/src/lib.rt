@@ -1,0 +1,31 @@
+// A trace read event by event and written again: the trace reader and the trace writer at work.
+// An event has one text only, so that what is written is what was read.
+use buffer::Put;
+use trace::Reading;
+ghost use mathlib.Core.Path.{_≡_};
+ghost use lib.ListN.{length, take};
+ghost use lib.Seq.{sets};
+ghost use Rattle.rewriter.specs.Rewritten.{copyEnd};
+
+// How many bytes of a text are written again into a lent buffer, from its start: those of the whole events up to the
+// first that is not well-formed or does not fit.
+pub fn rewrite(text: &[u8], copy: &mut [u8]) -> usize
+    ensures { λ r. ⌜ r ≡ copyEnd (now (text .entry)) (length (now (copy .entry))) ⌝ }
+    ensures { λ _. ⌜ now (copy .exit) ≡ sets (now (copy .entry)) 0 (take (copyEnd (now (text .entry)) (length (now (copy .entry)))) (now (text .entry))) ⌝ }
+{
+    let mut at: usize = 0;
+    let mut out: usize = 0;
+    while at < text.len() {
+        let reading = trace_reader::read_at(text, at);
+        let Reading::Event(e, next) = reading else {
+            return out;
+        };
+        let put = trace_writer::put_event(e, copy, out);
+        let Put::End(end) = put else {
+            return out;
+        };
+        out = end;
+        at = next;
+    }
+    out
+}

@@ -1,0 +1,11 @@
+-- The page, for every list. Assumes nothing.
+use Rattle.rules.specs.Replies.{History}
+use Rattle.rules.specs.Page.{Page}
+use Rattle.rules.proofs.PageRepliesLaws.{page-replies}
+use Rattle.rules.proofs.PageTemperaturesLaws.{page-temperatures}
+use Rattle.rules.proofs.PageDutiesLaws.{page-duties}
+use Rattle.rules.proofs.PageTachLaws.{page-tach}
+use Rattle.rules.proofs.PageStaysLaws.{page-stays}
+
+pub page : (h : History) → Page h
+page h = record { replies = page-replies h; temperatures = page-temperatures h; duties = page-duties h; tachs = page-tach h; stays = page-stays h }

@@ -1,0 +1,91 @@
+-- The software reset: what it keeps, and that it leaves what power leaves. Assumes nothing.
+use Prim.Native.Nat.{ℕ}
+use mathlib.Core.Path.{_≡_, refl, sym, _∙_}
+use mathlib.Core.Bool.{true, false}
+use mathlib.Core.List.{_∷_}
+use lib.Dec.{eqb}
+use lib.IntN.{ℤ, pos}
+use Rattle.integer.specs.Bits.{bitOf}
+use Rattle.part.specs.declared.ChannelId.{ChannelId}
+use Rattle.part.specs.declared.ChannelId.the-variants.{Local, Remote1, Remote2}
+use Rattle.part.specs.declared.FanId.{FanId}
+use Rattle.part.specs.declared.FanId.the-variants.{One, Two}
+use Rattle.rules.specs.Registers.{resetAt}
+use Rattle.rules.specs.Stored.{Taken, storedAt, pointer, pinLow, ownAddress, diodeError, pulledBit}
+use Rattle.rules.specs.Temperatures.{temperature, latch, thermAsserted, highBit, lowBit, thermBit}
+use Rattle.rules.specs.Targets.{flag, demand, assignedBy, targetOf, target, overridden}
+use Rattle.rules.specs.Duties.{spinUpOf, left, dutyAfter, spinAfter, spin, duty, judged, failed, failures, faultBit, atAlarm, alarmBit}
+use Rattle.rules.specs.Shows.{status, byteAt, value, intAsserted, faultAsserted, shown}
+use Rattle.rules.specs.PageWords.{power}
+use Rattle.rules.specs.PageTemperatures.{reset}
+use Rattle.rules.proofs.PowerLaws.{dark, power-shown}
+
+module _ (d : Taken) (w : ℤ) (b : ℕ) where
+  pub reset-keeps : (ownAddress (reset w b ∷ d) ≡ ownAddress d) × (pinLow (reset w b ∷ d) ≡ pinLow d) × (pointer (reset w b ∷ d) ≡ 1)
+  unfolding ownAddress pinLow pointer
+  reset-keeps = (refl, refl, refl)
+
+module _ (d : Taken) (w : ℤ) (b : ℕ) (seven : bitOf b 7 ≡ true) where
+  pub reset-latch : (c : ChannelId) → latch c (reset w b ∷ d) ≡ false
+  unfolding latch
+  reset-latch c = rw seven
+
+  pub reset-flag : (c : ChannelId) → flag c (reset w b ∷ d) ≡ false
+  unfolding flag
+  reset-flag c = rw seven
+
+  pub reset-run : (f : FanId) → failures f (reset w b ∷ d) ≡ 0
+  unfolding failures failed judged storedAt resetAt
+  reset-run One = rw seven
+  reset-run Two = rw seven
+
+  reset-target : (f : FanId) → target f (reset w b ∷ d) ≡ 0
+  unfolding target targetOf assignedBy demand flag storedAt resetAt
+  reset-target One = rw seven
+  reset-target Two = rw seven
+
+  -- ---- the pin is high
+
+  module _ (high : pinLow d ≡ false) where
+    reset-calm : overridden (reset w b ∷ d) ≡ false
+    unfolding overridden thermAsserted latch pinLow storedAt resetAt
+    reset-calm = rw (high, seven)
+
+    reset-spin : (f : FanId) → spin f (reset w b ∷ d) .duty ≡ 0
+    unfolding spin spinAfter dutyAfter storedAt resetAt
+    reset-spin One = rw (seven, reset-target One, reset-calm)
+    reset-spin Two = rw (seven, reset-target Two, reset-calm)
+
+    reset-shown : shown (reset w b ∷ d) ≡ dark
+    unfolding shown intAsserted faultAsserted thermAsserted storedAt resetAt duty
+    reset-shown = rw (reset-spin One, reset-spin Two, reset-run One, reset-run Two, reset-latch Local, reset-latch Remote1, reset-latch Remote2, seven)
+
+    module _ (x y own : ℕ) (p : diodeError Remote1 d ≡ eqb x 1) (q : diodeError Remote2 d ≡ eqb y 1) where
+      status-alike : (f : FanId) → status f (reset w b ∷ d) ≡ status f (power (pos own) (pos x) (pos y) ∷ d)
+      unfolding status thermAsserted storedAt resetAt latch highBit lowBit thermBit diodeError pulledBit faultBit alarmBit atAlarm failed overridden pinLow
+      status-alike One = rw (seven, high, p)
+      status-alike Two = rw (seven, high, q)
+
+      pub reset-as-power : (a : ℕ) → value a (reset w b ∷ d) ≡ value a (power (pos own) (pos x) (pos y) ∷ d)
+      unfolding value byteAt storedAt temperature
+      reset-as-power a = rw (status-alike One, status-alike Two, seven)
+
+      pub outputs-alike : shown (reset w b ∷ d) ≡ shown (power (pos own) (pos x) (pos y) ∷ d)
+      outputs-alike = reset-shown ∙ sym (power-shown d (pos own) (pos x) (pos y))
+
+  -- ---- the pin is low
+
+  module _ (low : pinLow d ≡ true) where
+    pub low-alarm : (f : FanId) → alarmBit f (reset w b ∷ d) ≡ true
+    unfolding alarmBit atAlarm overridden pinLow storedAt resetAt
+    low-alarm One = rw (seven, low)
+    low-alarm Two = rw (seven, low)
+
+    pub low-spin : (f : FanId) → left (spin f (reset w b ∷ d)) ≡ 20
+    unfolding spin spinAfter dutyAfter spinUpOf overridden pinLow storedAt resetAt
+    low-spin One = rw (reset-target One, seven, low)
+    low-spin Two = rw (reset-target Two, seven, low)
+
+  pub reset-pulled : pulledBit (reset w b ∷ d) ≡ false
+  unfolding pulledBit
+  reset-pulled = rw seven

@@ -1,0 +1,15 @@
+pub mod Registers
+pub mod Fields
+pub mod Events
+pub mod Stored
+pub mod Replies
+pub mod Temperatures
+pub mod Targets
+pub mod Duties
+pub mod Shows
+pub mod PageWords
+pub mod PageReplies
+pub mod PageTemperatures
+pub mod PageDuties
+pub mod PageStays
+pub mod Page
