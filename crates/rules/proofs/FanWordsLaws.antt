@@ -1,9 +1,10 @@
 -- The page's words of fans are the rules': bits, figures, duties, demands. Assumes nothing.
 use Prim.Native.Nat.{ℕ, suc, zero, _/_, _%_, _<_}
-use mathlib.Core.Path.{_≡_, sym, _∙_}
+use mathlib.Core.Path.{_≡_, refl, sym, _∙_}
 use mathlib.Core.Bool.{Bool, false, _&&_}
 use mathlib.Core.List.{List, [], _∷_}
 use native.Mathlib.Omega.{arith}
+use lib.IntN.{ℤ, pos, negsuc}
 use lib.ListN.{getD}
 use borrow.Author.Needs.{needs}
 use Rattle.integer.proofs.PackLaws.{bit-0, bit-1}
@@ -13,13 +14,14 @@ use Rattle.part.specs.declared.FanId.{FanId}
 use Rattle.part.specs.declared.FanId.the-variants.{One, Two}
 use Rattle.rules.specs.Registers.{config1, speeds, characteristicsAt, controlAt, tachLimitAt, existsAt}
 use Rattle.rules.specs.Fields.{assignment, speedCode}
+use Rattle.rules.specs.Events.{natural}
 use Rattle.rules.specs.Stored.{Taken, storedAt}
 use Rattle.rules.specs.Replies.{History, taken}
 use Rattle.rules.specs.Targets.{rangeOf, demand, assignedBy}
 use Rattle.rules.specs.Duties.{enabled, tachOn, filtered, rate, rateOf, spinUpClocks, spinUpOf, left, spin, duty, atAlarm, alarmBit, faultBit}
 use Rattle.rules.specs.Shows.{status, byteAt, value, shown}
 use Rattle.rules.specs.PageWords.{register, byFan, outputBit, tachBit, filterBit, alarmStatus, faultStatus, dutyOut, control, rangeFigure, spinUpFigure, rateFigure, minimumCode, assignmentTable, isAssigned}
-use Rattle.rules.specs.PageDuties.{clocksLeft, forced, demanded, toTurn}
+use Rattle.rules.specs.PageDuties.{clocksLeft, forced, excess, demanded, toTurn}
 use Rattle.rules.proofs.TakenLaws.{took}
 use Rattle.rules.proofs.StoredLaws.{byte}
 use Rattle.rules.proofs.SoundLaws.{wanted}
@@ -61,6 +63,10 @@ assigned-each One Remote2 = search needs
 assigned-each Two Local = search needs
 assigned-each Two Remote1 = search needs
 assigned-each Two Remote2 = search needs
+
+excess-is : (v : ℤ) → excess v ≡ natural v
+excess-is (pos n) = refl
+excess-is (negsuc n) = refl
 
 -- ---- after a list of events
 
@@ -128,7 +134,7 @@ module _ (h : History) (d : Taken) (is : taken h ≡ d) where
 
   pub demanded-is : (f : FanId) (c : ChannelId) → demanded f c h ≡ demand f c d
   unfolding demand
-  demanded-is f c = rw (control-is, minimum-is, range-is, is)
+  demanded-is f c = rw (control-is, minimum-is, range-is, excess-is, is)
 
   pub assigned-is : (f : FanId) (c : ChannelId) → isAssigned f c h ≡ assignedBy (assignment (storedAt config1 d)) f c
   unfolding value byteAt existsAt

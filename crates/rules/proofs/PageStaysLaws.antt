@@ -19,9 +19,10 @@ use Rattle.rules.specs.Registers.{extended, valueAt}
 use Rattle.rules.specs.Events.{measures, samples, restarts}
 use Rattle.rules.specs.Stored.{Taken, powered, ownAddress}
 use Rattle.rules.specs.Replies.{History, taken}
+use Rattle.rules.specs.Temperatures.{temperature}
 use Rattle.rules.specs.Duties.{judged, failed}
 use Rattle.rules.specs.Shows.{value}
-use Rattle.rules.specs.PageWords.{write, pin, sampled, Accepted, register, dutyOut, byChannel, byFan, alarmStatus, faultStatus}
+use Rattle.rules.specs.PageWords.{power, write, pin, sampled, Accepted, register, dutyOut, byChannel, byFan, alarmStatus, faultStatus}
 use Rattle.rules.specs.PageTemperatures.{reset}
 use Rattle.rules.specs.PageDuties.{clocksLeft, failureRun}
 use Rattle.rules.specs.PageStays.{alarmed, PageStays}
@@ -81,6 +82,19 @@ other-count One Two n ne = refl
 other-count Two One n ne = refl
 other-count Two Two n ne = absurd (ne refl)
 
+-- ---- readings
+
+module _ (d : Taken) (t : ℤ) where
+  last-reading : (c : ChannelId) → temperature c (sampled c t ∷ d) ≡ t
+  unfolding temperature
+  last-reading Local = refl
+  last-reading Remote1 = refl
+  last-reading Remote2 = refl
+
+  another-reading : (c other : ChannelId) → (c ≡ other → ⊥) → temperature c (sampled other t ∷ d) ≡ temperature c d
+  another-reading c other n =
+      reading-kept (sampled other t) d (sampled-kind kind.Power other t) (sampled-kind kind.Write other t) c (another c other t n)
+
 -- ---- after a list of events
 
 module _ (h : History) where
@@ -137,7 +151,7 @@ module _ (h : History) where
         )
 
 pub page-stays : (h : History) → PageStays h
-unfolding powered ownAddress
+unfolding powered ownAddress temperature
 page-stays h =
     let d = taken h in
     record {
@@ -154,8 +168,7 @@ page-stays h =
       byCount = λ f n a go q. counted-kept h f f n go a q;
       restByAnother = λ c other t n go.
           rw (accepted-is (sampled other t) h go)
-          (rest-same c (sampled other t ∷ d) d
-          (reading-kept (sampled other t) d (sampled-kind kind.Power other t) (sampled-kind kind.Write other t) c (another c other t n)));
+          (rest-same c (sampled other t ∷ d) d (another-reading d t c other n));
       statusByWrite = λ c w a b go q. let e = write w (pos a) (pos b) in
           rw (
             accepted-is e h go,
@@ -176,6 +189,12 @@ page-stays h =
       flagByAnother = λ c other t n go.
           rw (accepted-is (sampled other t) h go)
           (flag-kept (sampled other t) d (sampled-kind kind.Power other t) (sampled-kind kind.Write other t) c (another c other t n));
+      lastReading = λ c t go. rw (accepted-is (sampled c t) h go) (last-reading d t c);
+      unreadAfterPower = λ c w x y go. rw (accepted-is (power w x y) h go);
+      unreadAfterReset = λ c w b go seven. rw (accepted-is (reset w b) h go, seven);
+      readingStays = λ c e go s no-power no-write. rw (accepted-is e h go) (reading-kept e d no-power no-write c (rw s));
+      readingByAnother = λ c other t n go. rw (accepted-is (sampled other t) h go) (another-reading d t c other n);
+      readingByWrite = λ c w a b go q. rw (accepted-is (write w (pos a) (pos b)) h go, q);
       waitsUnjudged = λ f n go y.
           left-stays h f f n go (tach.failed-is (count f n) d (is-tach f n) f ∙ rw (own f n, judgeable-by h f y));
       waitsAfterGood = λ f n go l. let below = le-ltb _ n (rw (limit-is h d refl) at l) in

@@ -26,10 +26,10 @@ use Rattle.rules.specs.PageTemperatures.{PageTemperatures, reset}
 use Rattle.rules.proofs.TakenLaws.{accepted-is}
 use Rattle.rules.proofs.QuietLaws.{uncounted, shows-alike}
 use Rattle.rules.proofs.ReadingLaws.{eighths, reading}
-use Rattle.rules.proofs.StatusLaws.{high-shown, low-shown, therm-shown, alarm-shown, error-shown, pulled-shown, high-off, low-off, therm-off, clears, keeps}
+use Rattle.rules.proofs.StatusLaws.{high-shown, low-shown, therm-shown, error-shown, pulled-shown, high-off, low-off, therm-off, clears, keeps}
 use Rattle.rules.proofs.StayLaws.{high-kept, low-kept, therm-kept, pulled-kept, sampled-kind, another}
 use Rattle.rules.proofs.ChannelLaws as channel
-use Rattle.rules.proofs.ResetLaws.{reset-keeps, reset-latch, reset-flag, reset-run, reset-as-power, outputs-alike, low-alarm, low-spin, reset-pulled}
+use Rattle.rules.proofs.ResetLaws.{reset-keeps, reset-latch, reset-flag, reset-run, reset-as-power, outputs-alike, low-byte, low-spin}
 
 module _ (d : Taken) where
   -- a read leaves every register but the status bytes
@@ -142,10 +142,5 @@ page-temperatures h =
       resetStops = λ w b c f go y.
           rw (accepted-is (reset w b) h go)
           (reset-latch (taken h) w b y c, reset-flag (taken h) w b y c, reset-run (taken h) w b y f);
-      resetLow = λ w b f go y low.
-          rw (accepted-is (reset w b) h go) (
-            alarm-shown (reset w b ∷ taken h) f ∙ low-alarm (taken h) w b y low f,
-            low-spin (taken h) w b y low f,
-            pulled-shown (reset w b ∷ taken h) ∙ reset-pulled (taken h) w b y,
-          );
+      resetLow = λ w b f go y low. rw (accepted-is (reset w b) h go) (low-byte (taken h) w b y low f, low-spin (taken h) w b y low f);
     }

@@ -1,24 +1,25 @@
 -- The software reset: what it keeps, and that it leaves what power leaves. Assumes nothing.
-use Prim.Native.Nat.{ℕ}
+use Prim.Native.Nat.{ℕ, _+_, _*_, _/_, _%_}
 use mathlib.Core.Path.{_≡_, refl, sym, _∙_}
 use mathlib.Core.Bool.{true, false}
 use mathlib.Core.List.{_∷_}
 use lib.Dec.{eqb}
 use lib.IntN.{ℤ, pos}
-use Rattle.integer.specs.Bits.{bitOf}
+use Rattle.integer.specs.Bits.{bitOf, packed}
 use Rattle.part.specs.declared.ChannelId.{ChannelId}
 use Rattle.part.specs.declared.ChannelId.the-variants.{Local, Remote1, Remote2}
 use Rattle.part.specs.declared.FanId.{FanId}
 use Rattle.part.specs.declared.FanId.the-variants.{One, Two}
-use Rattle.rules.specs.Registers.{resetAt}
+use Rattle.rules.specs.Registers.{resetAt, existsAt}
 use Rattle.rules.specs.Stored.{Taken, storedAt, pointer, pinLow, ownAddress, diodeError, pulledBit}
 use Rattle.rules.specs.Temperatures.{temperature, latch, thermAsserted, highBit, lowBit, thermBit}
 use Rattle.rules.specs.Targets.{flag, demand, assignedBy, targetOf, target, overridden}
 use Rattle.rules.specs.Duties.{spinUpOf, left, dutyAfter, spinAfter, spin, duty, judged, failed, failures, faultBit, atAlarm, alarmBit}
 use Rattle.rules.specs.Shows.{status, byteAt, value, intAsserted, faultAsserted, shown}
-use Rattle.rules.specs.PageWords.{power}
+use Rattle.rules.specs.PageWords.{power, byFan}
 use Rattle.rules.specs.PageTemperatures.{reset}
 use Rattle.rules.proofs.PowerLaws.{dark, power-shown}
+use Rattle.rules.proofs.StatusLaws.{error-shown, fifth}
 
 module _ (d : Taken) (w : ℤ) (b : ℕ) where
   pub reset-keeps : (ownAddress (reset w b ∷ d) ≡ ownAddress d) × (pinLow (reset w b ∷ d) ≡ pinLow d) × (pointer (reset w b ∷ d) ≡ 1)
@@ -76,16 +77,17 @@ module _ (d : Taken) (w : ℤ) (b : ℕ) (seven : bitOf b 7 ≡ true) where
   -- ---- the pin is low
 
   module _ (low : pinLow d ≡ true) where
-    pub low-alarm : (f : FanId) → alarmBit f (reset w b ∷ d) ≡ true
-    unfolding alarmBit atAlarm overridden pinLow storedAt resetAt
-    low-alarm One = rw (seven, low)
-    low-alarm Two = rw (seven, low)
+    low-status :
+        (f : FanId) →
+        value (byFan 0x02 0x03 f) (reset w b ∷ d) ≡ packed true false false false false (diodeError (byFan Remote1 Remote2 f) d) false false
+    unfolding value byteAt existsAt status storedAt resetAt latch highBit lowBit thermBit diodeError pulledBit faultBit alarmBit atAlarm failed overridden pinLow
+    low-status One = rw (seven, low)
+    low-status Two = rw (seven, low)
+
+    pub low-byte : (f : FanId) → value (byFan 0x02 0x03 f) (reset w b ∷ d) ≡ 1 + 32 * (value (byFan 0x02 0x03 f) d / 32 % 2)
+    low-byte f = low-status f ∙ fifth (value (byFan 0x02 0x03 f) d) true (diodeError (byFan Remote1 Remote2 f) d) (error-shown d f)
 
     pub low-spin : (f : FanId) → left (spin f (reset w b ∷ d)) ≡ 20
     unfolding spin spinAfter dutyAfter spinUpOf overridden pinLow storedAt resetAt
     low-spin One = rw (reset-target One, seven, low)
     low-spin Two = rw (reset-target Two, seven, low)
-
-  pub reset-pulled : pulledBit (reset w b ∷ d) ≡ false
-  unfolding pulledBit
-  reset-pulled = rw seven

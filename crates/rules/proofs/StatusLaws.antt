@@ -1,5 +1,5 @@
 -- The bits of the status bytes as a user reads them, and what moves them. Assumes nothing.
-use Prim.Native.Nat.{ℕ, _*_, _/_, _%_}
+use Prim.Native.Nat.{ℕ, _+_, _*_, _/_, _%_}
 use mathlib.Core.Path.{_≡_, refl, sym, _∙_}
 use mathlib.Core.Bool.{Bool, true, false, cond, not, and-false, and-not-self, or-true}
 use mathlib.Core.List.{[], _∷_}
@@ -7,7 +7,7 @@ use native.Mathlib.Omega.{arith}
 use lib.Dec.{eqb}
 use lib.IntN.{ℤ, pos}
 use borrow.Author.Tests.{eqb-true, eqb-false}
-use Rattle.integer.specs.Bits.{bitOf, packed}
+use Rattle.integer.specs.Bits.{bitOf, weighed, packed}
 use Rattle.integer.proofs.PackLaws.{bit-0, bit-2, bit-3, bit-4, bit-5, bit-6, bit-7}
 use Rattle.part.specs.declared.ChannelId.{ChannelId}
 use Rattle.part.specs.declared.ChannelId.the-variants.{Local, Remote1, Remote2}
@@ -81,11 +81,13 @@ stays false was q = sym (q refl)
 
 -- ---- a read
 
--- bit 5 of a byte, alone
-fifth : (n : ℕ) (b : Bool) → bitOf n 5 ≡ b → packed false false false false false b false false ≡ 32 * (n / 32 % 2)
+-- bit 5 of a byte, alone or beside the alarm bit
+pub fifth : (n : ℕ) (alarm b : Bool) → bitOf n 5 ≡ b → packed alarm false false false false b false false ≡ weighed alarm 1 + 32 * (n / 32 % 2)
 unfolding packed
-fifth n true q = omega (arith, eqb-true (n / 32 % 2) 1 q)
-fifth n false q = omega (arith, eqb-false (n / 32 % 2) 1 q)
+fifth n true true q = omega (arith, eqb-true (n / 32 % 2) 1 q)
+fifth n true false q = omega (arith, eqb-false (n / 32 % 2) 1 q)
+fifth n false true q = omega (arith, eqb-true (n / 32 % 2) 1 q)
+fifth n false false q = omega (arith, eqb-false (n / 32 % 2) 1 q)
 
 module _ (d : Taken) (w : ℤ) where
   -- it enters no alarm speed
@@ -114,7 +116,7 @@ module _ (d : Taken) (w : ℤ) where
   pub clears :
       (f : FanId) → pointer d ≡ byFan 0x02 0x03 f →
       value (byFan 0x02 0x03 f) (read w (pos 0) (pos 0) ∷ d) ≡ 32 * (value (byFan 0x02 0x03 f) d / 32 % 2)
-  clears f p = cleared f p ∙ fifth (value (byFan 0x02 0x03 f) d) (diodeError (byFan Remote1 Remote2 f) d) (error-shown d f)
+  clears f p = cleared f p ∙ (fifth (value (byFan 0x02 0x03 f) d) false (diodeError (byFan Remote1 Remote2 f) d) (error-shown d f) ∙ omega arith)
 
   pub keeps :
       (f : FanId) → eqb (pointer d) (byFan 0x02 0x03 f) ≡ false →

@@ -4,7 +4,7 @@ use mathlib.Core.Path.{_≡_}
 use mathlib.Core.Bool.{Bool, true, false, cond, not, _&&_, _||_}
 use mathlib.Core.List.{_∷_}
 use lib.Dec.{eqb, ltb, leb}
-use lib.IntN.{ℤ, pos, _-ℤ_, _*ℤ_}
+use lib.IntN.{ℤ, pos, negsuc, _-ℤ_, _*ℤ_}
 use lib.Signed.{ltZ}
 use Rattle.integer.specs.Bits.{bitOf, flagOf}
 use Rattle.part.specs.declared.ChannelId.{ChannelId}
@@ -13,7 +13,6 @@ use Rattle.part.specs.declared.FanId.the-variants.{One, Two}
 use Rattle.event.specs.Kinds.{isKind}
 use Rattle.event.specs.declared.Event.{Event}
 use Rattle.event.specs.declared.Kind.the-variants as kind
-use Rattle.rules.specs.Events.{natural}
 use Rattle.rules.specs.Stored.{pinLow}
 use Rattle.rules.specs.Replies.{History, taken}
 use Rattle.rules.specs.Temperatures.{temperature}
@@ -37,11 +36,20 @@ forced h = overridden (taken h)
 abbrev pub failureRun : FanId → History → ℕ
 failureRun f h = failures f (taken h)
 
+-- the reading of a channel in eighths: what it is stands in PageStays
+abbrev pub eighthsRead : ChannelId → History → ℤ
+eighthsRead c h = temperature c (taken h)
+
+-- 2: "max(0, ..)"
+abbrev pub excess : ℤ → ℕ
+excess (pos n) = n
+excess (negsuc n) = 0
+
 -- 2: the demand of a channel on a fan
 abbrev pub demanded : FanId → ChannelId → History → ℕ
 demanded f c h =
     cond (running c h)
-    (min 240 (16 * minimumCode f h + 20 * natural (temperature c (taken h) -ℤ pos (8 * tminFigure (control c h))) / rangeFigure (control c h)))
+    (min 240 (16 * minimumCode f h + 20 * excess (eighthsRead c h -ℤ pos (8 * tminFigure (control c h))) / rangeFigure (control c h)))
     0
 
 -- 6: a fan whose duty is 0 is to turn after the event: enabled, and its target above 0 or overridden

@@ -14,10 +14,10 @@ use Rattle.event.specs.declared.Event.{Event}
 use Rattle.event.specs.declared.Kind.the-variants as kind
 use Rattle.rules.specs.Stored.{ownAddress}
 use Rattle.rules.specs.Replies.{History, taken, accepted}
-use Rattle.rules.specs.PageWords.{write, pin, sampled, counted, Accepted, register, bit, replyNumber, dutyOut, byChannel, byFan, channelBit, highStatus, lowStatus, thermStatus, alarmStatus, faultStatus, outputBit, tachBit}
+use Rattle.rules.specs.PageWords.{power, write, pin, sampled, counted, Accepted, register, bit, replyNumber, dutyOut, byChannel, byFan, channelBit, highStatus, lowStatus, thermStatus, alarmStatus, faultStatus, outputBit, tachBit}
 use Rattle.rules.specs.PageReplies.{oneOf, registers, powerOn, powerImage}
 use Rattle.rules.specs.PageTemperatures.{eighthsIn, reset}
-use Rattle.rules.specs.PageDuties.{running, clocksLeft, forced, failureRun, judgedAfter}
+use Rattle.rules.specs.PageDuties.{running, eighthsRead, clocksLeft, forced, failureRun, judgedAfter}
 
 -- a write that is no software reset
 abbrev pub ordinary : (a b : ℕ) → Type 0
@@ -64,6 +64,18 @@ pub record PageStays (h : History) : Type 0 where
   -- duty 1: a sample of another channel
   pub flagByAnother :
       (c other : ChannelId) (t : ℤ) → (c ≡ other → ⊥) → Accepted (sampled other t) h → running c (sampled other t ∷ h) ≡ running c h
+  -- duty 2: a channel's reading is its last sample, 0 after power and reset; nothing else moves it
+  pub lastReading : (c : ChannelId) (t : ℤ) → Accepted (sampled c t) h → eighthsRead c (sampled c t ∷ h) ≡ t
+  pub unreadAfterPower : (c : ChannelId) (w x y : ℤ) → Accepted (power w x y) h → eighthsRead c (power w x y ∷ h) ≡ pos 0
+  pub unreadAfterReset : (c : ChannelId) (w : ℤ) (b : ℕ) → Accepted (reset w b) h → bitOf b 7 ≡ true → eighthsRead c (reset w b ∷ h) ≡ pos 0
+  pub readingStays :
+      (c : ChannelId) (e : Event) → Accepted e h → isKind kind.Sample e ≡ false → isKind kind.Power e ≡ false → isKind kind.Write e ≡ false →
+      eighthsRead c (e ∷ h) ≡ eighthsRead c h
+  pub readingByAnother :
+      (c other : ChannelId) (t : ℤ) → (c ≡ other → ⊥) → Accepted (sampled other t) h → eighthsRead c (sampled other t ∷ h) ≡ eighthsRead c h
+  pub readingByWrite :
+      (c : ChannelId) (w : ℤ) (a b : ℕ) → Accepted (write w (pos a) (pos b)) h → ordinary a b →
+      eighthsRead c (write w (pos a) (pos b) ∷ h) ≡ eighthsRead c h
   -- duty 6: a count that is not judged, or no failure, changes nothing of a spin-up under way
   pub waitsUnjudged : (f : FanId) (n : ℕ) → Accepted (counted f (pos n)) h → judgedAfter f h ≡ false → clocksLeft f (counted f (pos n) ∷ h) ≡ clocksLeft f h
   pub waitsAfterGood :

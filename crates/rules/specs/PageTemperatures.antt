@@ -138,7 +138,7 @@ pub record PageTemperatures (h : History) : Type 0 where
   pub resetStops :
       (w : ℤ) (b : ℕ) (c : ChannelId) (f : FanId) → Accepted (reset w b) h → bitOf b 7 ≡ true →
       (latched c (reset w b ∷ h) ≡ false) × (flag c (taken (reset w b ∷ h)) ≡ false) × (failures f (taken (reset w b ∷ h)) ≡ 0)
-  -- 9: "a pin still low starts spin-ups and sets alarm bits, but not bit 7 of 0x03"
+  -- 9: "a pin still low starts spin-ups and sets alarm bits, but not bit 7 of 0x03": a status byte is its alarm bit and the diode error
   pub resetLow :
       (w : ℤ) (b : ℕ) (f : FanId) → Accepted (reset w b) h → bitOf b 7 ≡ true → pulled h ≡ true →
-      (alarmStatus f (reset w b ∷ h) ≡ true) × (left (spin f (taken (reset w b ∷ h))) ≡ 20) × (bit 0x03 7 (reset w b ∷ h) ≡ false)
+      (register (byFan 0x02 0x03 f) (reset w b ∷ h) ≡ 1 + 32 * (register (byFan 0x02 0x03 f) h / 32 % 2)) × (left (spin f (taken (reset w b ∷ h))) ≡ 20)
