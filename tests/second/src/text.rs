@@ -13,11 +13,7 @@ pub fn replay(text: &[u8]) -> Vec<u8> {
         return report;
     }
     let mut keeper = Keeper::new();
-    let mut reader = Reader {
-        text,
-        place: 0,
-        line: 1,
-    };
+    let mut reader = Reader::new(text);
     while reader.place < text.len() {
         match reader.event() {
             Some(e) => put_reply(&mut report, keeper.take(e)),
@@ -33,11 +29,7 @@ pub fn replay(text: &[u8]) -> Vec<u8> {
 
 /// Where the last event ends that is well-formed, as those before it, and lies within the first `room` bytes.
 pub fn whole_events(text: &[u8], room: usize) -> usize {
-    let mut reader = Reader {
-        text,
-        place: 0,
-        line: 1,
-    };
+    let mut reader = Reader::new(text);
     let mut end = 0;
     while reader.event().is_some() && reader.place <= room {
         end = reader.place;
@@ -53,6 +45,14 @@ struct Reader<'a> {
 }
 
 impl<'a> Reader<'a> {
+    fn new(text: &'a [u8]) -> Self {
+        Reader {
+            text,
+            place: 0,
+            line: 1,
+        }
+    }
+
     // four lines an event, in this order; at None `line` is the wrong one
     fn event(&mut self) -> Option<Event> {
         let kind = self.field(b"kind=", kind)?;
