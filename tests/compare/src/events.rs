@@ -1,5 +1,6 @@
 //! The events of a trace text as numbers, and the report that the engine alone gives for them.
 
+use second::keeper::Kind;
 use snezhulka::{Event, Outcome};
 use std::io::Write;
 
@@ -57,5 +58,26 @@ pub fn report_after(events: &[Event]) -> Vec<u8> {
 fn put_outcome(report: &mut Vec<u8>, outcome: &Outcome) {
     for (field, byte) in FIELDS.iter().zip(outcome) {
         writeln!(report, "{field}={byte}").expect("a list of bytes takes every byte");
+    }
+}
+
+/// An event as the second program takes it.
+pub fn second_event(&[kind, who, arg, val]: &Event) -> second::keeper::Event {
+    const KINDS: [Kind; 9] = [
+        Kind::Power,
+        Kind::Write,
+        Kind::Point,
+        Kind::Read,
+        Kind::Sample,
+        Kind::Tach,
+        Kind::Pin,
+        Kind::Clock,
+        Kind::Period,
+    ];
+    second::keeper::Event {
+        kind: KINDS[kind as usize],
+        who,
+        arg,
+        val,
     }
 }

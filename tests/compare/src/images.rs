@@ -1,19 +1,8 @@
 //! The register image after the first events of a trace, and a trace written again, beside the second program's.
 
-use second::keeper::{Event as SecondEvent, Keeper, Kind};
+use crate::events::second_event;
+use second::keeper::Keeper;
 use snezhulka::{Event, IMAGE_LENGTH};
-
-const KINDS: [Kind; 9] = [
-    Kind::Power,
-    Kind::Write,
-    Kind::Point,
-    Kind::Read,
-    Kind::Sample,
-    Kind::Tach,
-    Kind::Pin,
-    Kind::Clock,
-    Kind::Period,
-];
 
 /// The most events before most images, and the longest text that most copies are made of: so that a trace costs little.
 const MOST_EVENTS: usize = 100;
@@ -63,14 +52,8 @@ pub fn second_image(events: &[Event], index: u64) -> Image {
         return (10, buffer);
     }
     let mut keeper = Keeper::new();
-    for &[kind, who, arg, val] in &events[..count] {
-        let kind = KINDS[kind as usize];
-        keeper.take(SecondEvent {
-            kind,
-            who,
-            arg,
-            val,
-        });
+    for event in &events[..count] {
+        keeper.take(second_event(event));
     }
     (keeper.image(&mut buffer), buffer)
 }

@@ -2,7 +2,7 @@
 //! medians over rounds, as a ratio.
 
 use compare::{events, traces};
-use second::keeper::{Event, Keeper, Kind, Reply};
+use second::keeper::{Event, Keeper, Reply};
 use std::hint::black_box;
 use std::time::Instant;
 
@@ -86,7 +86,7 @@ fn engines(text: &[u8]) -> (f64, f64) {
         let taken = snezhulka::steps(black_box(&events), &mut outcomes);
         assert_eq!(taken, Ok(events.len()));
     };
-    let own_events: Vec<Event> = events.iter().map(second_event).collect();
+    let own_events: Vec<Event> = events.iter().map(events::second_event).collect();
     let mut replies: Vec<Reply> = Vec::with_capacity(events.len());
     let mut theirs = || {
         let mut keeper = Keeper::new();
@@ -99,26 +99,6 @@ fn engines(text: &[u8]) -> (f64, f64) {
         black_box(&replies);
     };
     medians(ROUND_BYTES / text.len(), &mut ours, &mut theirs)
-}
-
-fn second_event(&[kind, who, arg, val]: &snezhulka::Event) -> Event {
-    const KINDS: [Kind; 9] = [
-        Kind::Power,
-        Kind::Write,
-        Kind::Point,
-        Kind::Read,
-        Kind::Sample,
-        Kind::Tach,
-        Kind::Pin,
-        Kind::Clock,
-        Kind::Period,
-    ];
-    Event {
-        kind: KINDS[kind as usize],
-        who,
-        arg,
-        val,
-    }
 }
 
 /// One line: a size, and both programs on it.
