@@ -6,12 +6,18 @@ use borrow.Author.Tests.{not-true}
 use Rattle.integer.proofs.BoolLaws.{neither}
 use Rattle.part.specs.declared.ChannelId.{ChannelId}
 use Rattle.part.specs.declared.ChannelId.the-variants.{Local, Remote1, Remote2}
+use Rattle.part.specs.declared.FanId.{FanId}
 use Rattle.event.specs.declared.Kind.the-variants as kind
+use Rattle.rules.specs.Temperatures.{limitBitsIn, thermBitIn}
+use Rattle.rules.specs.Targets.{tminOf}
+use Rattle.reading.specs.Limits.{latchedOf, runningOf, isHigh, isLow}
+use Rattle.stored.specs.Stored.{channelRegistersOf}
+use Rattle.stored.specs.declared.ChannelRegisters.{ChannelRegisters}
 use Rattle.input.specs.Inputs.{isA, isSample, isRestart}
 use Rattle.input.specs.declared.Input.{Input}
 use Rattle.stored.specs.declared.Context.{Context}
-use Rattle.channel.specs.Channels.{sampledIn, readingAfter, latchAfter, flagAfter, channelOnIn, clearsBit, highBitAfter, lowBitAfter}
-use Rattle.channel.specs.Channels.{thermBitAfter, errorIn, errorAfter, passesBy, channelKept, channelAfter, channelsAfter}
+use Rattle.channel.specs.Channels.{sampledIn, readingAfter, flagAtSample, latchAfter, flagAfter, channelOnIn, clearsBit, statusBitAfter}
+use Rattle.channel.specs.Channels.{highBitAfter, lowBitAfter, thermBitAfter, errorIn, errorAfter, passesBy, channelKept, channelAfter, channelsAfter}
 use Rattle.channel.specs.declared.Channel.{Channel}
 use Rattle.channel.specs.declared.Channels.{Channels}
 
@@ -48,7 +54,7 @@ unmarked false false = refl
 
 module _ (c : ChannelId) (m : Context) (was : Channel) where
   pub kept-is : {b on : Bool} {k : Channel} → b ≡ passesBy c (m .input) → b ≡ true → on ≡ channelOnIn c m → k ≡ channelKept on was → k ≡ channelAfter c m was
-  unfolding channelAfter readingAfter latchAfter flagAfter clearsBit highBitAfter lowBitAfter thermBitAfter errorAfter
+  unfolding channelAfter readingAfter flagAtSample latchAfter flagAfter clearsBit statusBitAfter highBitAfter lowBitAfter thermBitAfter errorAfter
   kept-is {on = on} e t eo q =
       let i = m .input in
       let a = neither (isRestart i) (isSample c i || isA kind.Read i) (not-true (isRestart i || (isSample c i || isA kind.Read i)) (sym e ∙ t)) in
@@ -58,12 +64,17 @@ module _ (c : ChannelId) (m : Context) (was : Channel) where
 
   -- ---- from the parts
 
-  pub moved-is : {t : ℕ} {la fl hi lo th er : Bool} → la ≡ latchAfter c m (was .latch) → t ≡ readingAfter c m (was .reading) → fl ≡ flagAfter c m (was .flag)
-      → hi ≡ highBitAfter c m (was .high) → lo ≡ lowBitAfter c m (was .low) → th ≡ thermBitAfter c m (was .latch) la (was .therm)
-      → er ≡ errorAfter c (m .input) (was .error)
-      → _≡_ {A = Channel} (record { reading = t; latch = la; flag = fl; high = hi; low = lo; therm = th; error = er }) (channelAfter c m was)
-  unfolding channelAfter
-  moved-is el et ef eh eo eh' ee = rw (et, ef, eh, eo, eh', ee, el)
+  pub moved-is : {l : ChannelRegisters} {f g : FanId} {t r tm : ℕ} {la fl hi lo th er ms mr mh ml : Bool}
+      → l ≡ channelRegistersOf (m .registers) c → t ≡ sampledIn m → f ≡ limitBitsIn c → g ≡ thermBitIn c → tm ≡ tminOf (l .control)
+      → ms ≡ latchedOf (was .latch) (l .therm) t → la ≡ flagAtSample c m ms (was .latch)
+      → mr ≡ runningOf (was .flag) tm t → fl ≡ flagAtSample c m mr (was .flag)
+      → mh ≡ isHigh (l .high) t → hi ≡ statusBitAfter c f m mh (was .high)
+      → ml ≡ isLow (l .low) t → lo ≡ statusBitAfter c f m ml (was .low)
+      → th ≡ statusBitAfter c g m (not (was .latch) && la) (was .therm)
+      → r ≡ readingAfter c m (was .reading) → er ≡ errorAfter c (m .input) (was .error)
+      → _≡_ {A = Channel} (record { reading = r; latch = la; flag = fl; high = hi; low = lo; therm = th; error = er }) (channelAfter c m was)
+  unfolding channelAfter latchAfter flagAfter highBitAfter lowBitAfter thermBitAfter
+  moved-is el et ef eg em es ea er ep eh ei eo ew ex ey ez = rw (ey, ep, ei, ew, ex, ez, ea, es, er, eh, eo, em, ef, eg, el, et)
 
 pub all-three : (m : Context) (cs : Channels) {l r1 r2 : Channel}
     → l ≡ channelAfter Local m (cs .local) → r1 ≡ channelAfter Remote1 m (cs .remote1) → r2 ≡ channelAfter Remote2 m (cs .remote2)

@@ -28,17 +28,17 @@ sampledIn m = m .input .reading
 unfoldable pub readingAfter : ChannelId → Context → ℕ → ℕ
 readingAfter c m was = cond (isRestart (m .input)) 1024 (cond (isSample c (m .input)) (sampledIn m) was)
 
+-- a flag that a sample of the channel moves: off after power or reset, the next one at such a sample, else as it was
+unfoldable pub flagAtSample : ChannelId → Context → (next was : Bool) → Bool
+flagAtSample c m next was = cond (isRestart (m .input)) false (cond (isSample c (m .input)) next was)
+
 -- 2: the latch, by the channel's THERM limit
 unfoldable pub latchAfter : ChannelId → Context → Bool → Bool
-latchAfter c m was =
-    cond (isRestart (m .input)) false
-    (cond (isSample c (m .input)) (latchedOf was (channelRegistersOf (m .registers) c .therm) (sampledIn m)) was)
+latchAfter c m was = flagAtSample c m (latchedOf was (channelRegistersOf (m .registers) c .therm) (sampledIn m)) was
 
 -- duty 1: the run flag, by the channel's Tmin
 unfoldable pub flagAfter : ChannelId → Context → Bool → Bool
-flagAfter c m was =
-    cond (isRestart (m .input)) false
-    (cond (isSample c (m .input)) (runningOf was (tminOf (channelRegistersOf (m .registers) c .control)) (sampledIn m)) was)
+flagAfter c m was = flagAtSample c m (runningOf was (tminOf (channelRegistersOf (m .registers) c .control)) (sampledIn m)) was
 
 abbrev pub channelOnIn : ChannelId → Context → Bool
 channelOnIn c m = channelEnabled c (m .registers .config2)
@@ -47,20 +47,19 @@ channelOnIn c m = channelEnabled c (m .registers .config2)
 unfoldable pub clearsBit : ChannelId → FanId → Context → Bool
 clearsBit c f m = isRestart (m .input) || (isRead (statusAt f) (m .pointer) (m .input) || not (channelOnIn c m))
 
+-- a status bit in the register of a fan: set at a sample of the enabled channel where its condition is met, until it is cleared
+unfoldable pub statusBitAfter : ChannelId → FanId → Context → (met was : Bool) → Bool
+statusBitAfter c f m met was = bitAfter (isSample c (m .input) && (channelOnIn c m && met)) (clearsBit c f m) was
+
 -- 3: the high and low bits; the THERM bit at a latch going from off to on
 unfoldable pub highBitAfter : ChannelId → Context → Bool → Bool
-highBitAfter c m was =
-    bitAfter (isSample c (m .input) && (channelOnIn c m && isHigh (channelRegistersOf (m .registers) c .high) (sampledIn m)))
-    (clearsBit c (limitBitsIn c) m) was
+highBitAfter c m was = statusBitAfter c (limitBitsIn c) m (isHigh (channelRegistersOf (m .registers) c .high) (sampledIn m)) was
 
 unfoldable pub lowBitAfter : ChannelId → Context → Bool → Bool
-lowBitAfter c m was =
-    bitAfter (isSample c (m .input) && (channelOnIn c m && isLow (channelRegistersOf (m .registers) c .low) (sampledIn m)))
-    (clearsBit c (limitBitsIn c) m) was
+lowBitAfter c m was = statusBitAfter c (limitBitsIn c) m (isLow (channelRegistersOf (m .registers) c .low) (sampledIn m)) was
 
 unfoldable pub thermBitAfter : ChannelId → Context → (before after : Bool) → Bool → Bool
-thermBitAfter c m before after was =
-    bitAfter (isSample c (m .input) && (channelOnIn c m && (not before && after))) (clearsBit c (thermBitIn c) m) was
+thermBitAfter c m before after was = statusBitAfter c (thermBitIn c) m (not before && after) was
 
 -- 5: a diode error comes from power
 abbrev pub errorIn : ChannelId → Input → Bool

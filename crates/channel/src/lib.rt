@@ -8,7 +8,7 @@ use part::ChannelId;
 use stored::Context;
 ghost use mathlib.Core.Path.{_≡_};
 ghost use Rattle.rules.specs.Targets.{tminOf};
-ghost use Rattle.channel.specs.Channels.{sampledIn, readingAfter, latchAfter, flagAfter, channelOnIn, errorIn, errorAfter, passesBy};
+ghost use Rattle.channel.specs.Channels.{sampledIn, readingAfter, flagAtSample, channelOnIn, errorIn, errorAfter, passesBy};
 ghost use Rattle.channel.specs.Channels.{channelKept, channelAfter, channelsAfter, thermOf};
 
 // The last reading, the THERM latch and the run flag; then the high, low and THERM status bits, and the diode error.
@@ -47,14 +47,14 @@ fn reading_after(c: ChannelId, m: Context, was: u16) -> u16
     }
 }
 
-fn latch_after(c: ChannelId, m: Context, was: bool) -> bool
-    ensures { λ b. ⌜ b ≡ latchAfter c m was ⌝ }
+// A flag that a sample of the channel moves.
+fn flag_at_sample(c: ChannelId, m: Context, next: bool, was: bool) -> bool
+    ensures { λ b. ⌜ b ≡ flagAtSample c m next was ⌝ }
 {
-    let l = stored::channel_registers_of(m.registers, c);
     input::flag_after(
         input::is_restart(m.input),
         input::is_sample(c, m.input),
-        reading::latched(was, l.therm, sampled(m)),
+        next,
         was,
     )
 }
@@ -63,18 +63,6 @@ fn tmin(control: u8) -> u8
     ensures { λ t. ⌜ t ≡ tminOf control ⌝ }
 {
     4 * (control / 8 % 32)
-}
-
-fn flag_after(c: ChannelId, m: Context, was: bool) -> bool
-    ensures { λ b. ⌜ b ≡ flagAfter c m was ⌝ }
-{
-    let l = stored::channel_registers_of(m.registers, c);
-    input::flag_after(
-        input::is_restart(m.input),
-        input::is_sample(c, m.input),
-        reading::running(was, tmin(l.control), sampled(m)),
-        was,
-    )
 }
 
 // Whether the channel's enable bit is 1.
@@ -130,14 +118,19 @@ fn channel_kept(on: bool, was: Channel) -> Channel
 fn channel_moved(c: ChannelId, m: Context, was: Channel) -> Channel
     ensures { λ b. ⌜ b ≡ channelAfter c m was ⌝ }
 {
-    let latch = latch_after(c, m, was.latch);
+    let l = stored::channel_registers_of(m.registers, c);
+    let t = sampled(m);
+    let latch = flag_at_sample(c, m, reading::latched(was.latch, l.therm, t), was.latch);
+    let runs = reading::running(was.flag, tmin(l.control), t);
+    let flag = flag_at_sample(c, m, runs, was.flag);
+    let limits = status::limit_bits_in(c);
     Channel {
         reading: reading_after(c, m, was.reading),
         latch,
-        flag: flag_after(c, m, was.flag),
-        high: status::high_bit_after(c, m, was.high),
-        low: status::low_bit_after(c, m, was.low),
-        therm: status::therm_bit_after(c, m, was.latch, latch, was.therm),
+        flag,
+        high: status::bit_after(c, limits, m, reading::is_high(l.high, t), was.high),
+        low: status::bit_after(c, limits, m, reading::is_low(l.low, t), was.low),
+        therm: status::bit_after(c, status::therm_bit_in(c), m, !was.latch & latch, was.therm),
         error: error_after(c, m.input, was.error),
     }
 }

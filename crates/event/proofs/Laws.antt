@@ -1,41 +1,54 @@
 -- Kinds and their places in the table; an event by its kind; the size of a reply number. Assumes nothing.
 use Prim.Native.Nat.{ℕ, zero, suc, _≤_, _<_}
 use mathlib.Core.Bool.{Bool, true, false, _&&_, true≢false}
-use mathlib.Core.Path.{_≡_, refl, sym}
+use mathlib.Core.Path.{_≡_, refl, sym, subst}
+use mathlib.Core.Logic.{inl, inr}
+use mathlib.Core.List.{List, [], _∷_}
+use denote.Struct.Field.{Field}
+use denote.Struct.Values.{Values}
+use denote.Enum.Declared.{Choice, Record}
 use native.Mathlib.Omega.{arith}
+use lib.Dec.{ltb}
+use borrow.Author.Tests.{ltb-true}
 use lib.ListN.{length, List·getD-eq-default}
-use Rattle.event.specs.declared.Transfer.the-variants as transfer
+use Rattle.event.specs.declared.Numbers.{Numbers}
+use Rattle.event.specs.declared.Transfer.{Transfer}
+use Rattle.event.proofs.Transfer.{enum as transfer-enum}
 use Rattle.event.specs.declared.Event.{Event}
+use Rattle.event.proofs.Event.{enum as event-enum}
 use Rattle.event.specs.declared.Event.the-variants as event
 use Rattle.event.specs.declared.Kind.{Kind}
+use Rattle.event.proofs.Kind.{enum as kind-enum}
 use Rattle.event.specs.declared.Kind.the-variants as kind
 use Rattle.event.specs.declared.Refusal.{Refusal}
-use Rattle.event.specs.declared.Refusal.the-variants.{NoPower, OtherAddress, NoSuchPart, NoSuchRegister, ReadOnly, OutOfRange, BadRangeCode, OddLocal, NotMonitoring, Malformed, WrongSize}
+use Rattle.event.proofs.Refusal.{enum as refusal-enum}
 use Rattle.event.specs.declared.Answer.{Answer}
 use Rattle.event.specs.declared.Answer.the-variants.{Done, Refused}
 use Rattle.event.specs.Answers.{refusalNumber, numberOf}
 use Rattle.event.specs.Kinds.{kindOf, numbersOf, eventOf, kinds, kindAt, placeOf}
 
+-- what holds of each variant of a declared enum, one by one, holds of every value
+abbrev Every : (Fss : List (List Field)) → (Choice Fss → Type 0) → Type 0
+Every [] P = Unit {0}
+Every (Fs ∷ Fss) P = ((v : Values Fs) → P (inl v)) × Every Fss (λ c. P (inr c))
+
+at-variant : (Fss : List (List Field)) (P : Choice Fss → Type 0) → Every Fss P → (c : Choice Fss) → P c
+at-variant [] P all c = absurd c
+at-variant (Fs ∷ Fss) P all (inl v) = all .0 v
+at-variant (Fs ∷ Fss) P all (inr c) = at-variant Fss (λ c. P (inr c)) (all .1) c
+
+pub by-variants : (N : Record) (P : N .D → Type 0) → Every (N .parts) (λ c. P (N .make c)) → (d : N .D) → P d
+by-variants N P all d = subst P (N .eta d) (at-variant (N .parts) (λ c. P (N .make c)) all (N .as-values d))
+
 pub past-kinds : (p : ℕ) → length kinds ≤ p → kind.Power ≡ kindAt p
 past-kinds p h = sym (List·getD-eq-default kinds kind.Power h)
 
 -- a kind stands at its place
-placed : (k : Kind) → (kindAt (placeOf k) ≡ k) × (placeOf k < length kinds)
-placed kind.Power = (refl, omega arith)
-placed kind.Write = (refl, omega arith)
-placed kind.Point = (refl, omega arith)
-placed kind.Read = (refl, omega arith)
-placed kind.Sample = (refl, omega arith)
-placed kind.Tach = (refl, omega arith)
-placed kind.Pin = (refl, omega arith)
-placed kind.Clock = (refl, omega arith)
-placed kind.Period = (refl, omega arith)
-
 pub kind-back : (k : Kind) → kindAt (placeOf k) ≡ k
-kind-back k = placed k .0
+kind-back = by-variants kind-enum (λ k. kindAt (placeOf k) ≡ k) (search depth 30)
 
 pub place-small : (k : Kind) → placeOf k < length kinds
-place-small k = placed k .1
+place-small k = ltb-true (placeOf k) (length kinds) (by-variants kind-enum (λ k. ltb (placeOf k) (length kinds) ≡ true) (search depth 30) k)
 
 -- what holds at each of the first n places, one by one, holds at any of them
 abbrev pub Each : (ℕ → Type 0) → ℕ → Type 0
@@ -67,30 +80,18 @@ pub every-kind : (P : Kind → Type 0) → Each (λ p. P (kindAt p)) (length kin
 every-kind P all k = rw (kind-back k) at (at-place (λ p. P (kindAt p)) (length kinds) all (placeOf k) (place-small k))
 
 -- an event is its kind and its numbers
+transfer-back : (t : Transfer) → eventOf (kindOf (event.Bus t)) (numbersOf (event.Bus t)) ≡ event.Bus t
+transfer-back = by-variants transfer-enum (λ t. eventOf (kindOf (event.Bus t)) (numbersOf (event.Bus t)) ≡ event.Bus t) (search depth 30)
+
 pub event-back : (e : Event) → eventOf (kindOf e) (numbersOf e) ≡ e
-event-back (event.Power n) = refl
-event-back (event.Bus (transfer.Write n)) = refl
-event-back (event.Bus (transfer.Point n)) = refl
-event-back (event.Bus (transfer.Read n)) = refl
-event-back (event.Sample n) = refl
-event-back (event.Tach n) = refl
-event-back (event.Pin n) = refl
-event-back (event.Clock n) = refl
-event-back (event.Period n) = refl
+event-back = by-variants event-enum (λ e. eventOf (kindOf e) (numbersOf e) ≡ e) (search transfer-back depth 30)
+
+pub event-made : {e : Event} {k : Kind} {n : Numbers} → kindOf e ≡ k → numbersOf e ≡ n → e ≡ eventOf k n
+event-made {e} hk hn = rw (← hk, ← hn) (sym (event-back e))
 
 -- no reply number has more than three digits
 refusal-small : (r : Refusal) → refusalNumber r < 1000
-refusal-small NoPower = omega arith
-refusal-small OtherAddress = omega arith
-refusal-small NoSuchPart = omega arith
-refusal-small NoSuchRegister = omega arith
-refusal-small ReadOnly = omega arith
-refusal-small OutOfRange = omega arith
-refusal-small BadRangeCode = omega arith
-refusal-small OddLocal = omega arith
-refusal-small NotMonitoring = omega arith
-refusal-small Malformed = omega arith
-refusal-small WrongSize = omega arith
+refusal-small = by-variants refusal-enum (λ r. refusalNumber r < 1000) (search arith depth 30)
 
 pub number-small : (a : Answer) → numberOf a < 1000
 number-small (Done d) = omega arith

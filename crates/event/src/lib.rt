@@ -89,8 +89,9 @@ pub fn numbers_of(e: Event) -> Numbers
     }
 }
 
-pub fn event_of(k: Kind, n: Numbers) -> Event
-    ensures { λ r. ⌜ r ≡ eventOf k n ⌝ }
+// An event of a kind, with these numbers.
+fn of_kind(k: Kind, n: Numbers) -> Event
+    ensures { λ r. ⌜ (kindOf r ≡ k) × (numbersOf r ≡ n) ⌝ }
 {
     match k {
         Kind::Power => Event::Power(n),
@@ -103,6 +104,12 @@ pub fn event_of(k: Kind, n: Numbers) -> Event
         Kind::Clock => Event::Clock(n),
         Kind::Period => Event::Period(n),
     }
+}
+
+pub fn event_of(k: Kind, n: Numbers) -> Event
+    ensures { λ r. ⌜ r ≡ eventOf k n ⌝ }
+{
+    of_kind(k, n)
 }
 
 // A kind's place in the table.
@@ -140,8 +147,11 @@ const KINDS: [Kind; 9] = [
 pub fn kind_at(place: u16) -> Kind
     ensures { λ r. ⌜ r ≡ kindAt place ⌝ }
 {
-    let at = place as usize;
-    if at < 9 { KINDS[at] } else { Kind::Power }
+    if place < KIND_COUNT {
+        KINDS[place as usize]
+    } else {
+        Kind::Power
+    }
 }
 
 // Why an event, an image or a text is refused: the replies of document 01 from 1, in their order.

@@ -29,7 +29,7 @@ use Rattle.reading.proofs.FaithfulLaws.{faithful}
 use Rattle.input.specs.Inputs.{plainOf, measured, inputOf, bitAfter}
 use Rattle.input.proofs.PlainLaws.{plain-is, sample-is}
 use Rattle.stored.specs.Stored.{storedAfter, channelRegistersAfter, fanRegistersAfter, registersAfter, channelRegistersOf}
-use Rattle.channel.specs.Channels.{readingAfter, latchAfter, flagAfter, clearsBit, highBitAfter, lowBitAfter, thermBitAfter, errorIn, errorAfter, channelAfter, channelsAfter}
+use Rattle.channel.specs.Channels.{readingAfter, flagAtSample, latchAfter, flagAfter, clearsBit, statusBitAfter, highBitAfter, lowBitAfter, thermBitAfter, errorIn, errorAfter, channelAfter, channelsAfter}
 use Rattle.channel.specs.declared.Channel.{Channel}
 use Rattle.chip.specs.Chips.{portAfter}
 use Rattle.chip.specs.declared.Port.{Port}
@@ -124,14 +124,14 @@ module _ (e : Event) (d : Taken) (fine : replies.outOfRange e ≡ false) (small 
       own Remote2 = refl
 
   latch-is : latchAfter c (contextBy e d) (latch c d) ≡ latch c (e ∷ d)
-  unfolding latchAfter latch channelRegistersBy
+  unfolding flagAtSample latchAfter latch channelRegistersBy
   latch-is =
       rw (restart-is e fine, sample-is c e, own-registers)
       (ap (cond (restarts e) false)
       (where-on (samples c e) (latch c d) (λ y. stands y .latch (latch c d) (storedAt (thermLimitAt c) (e ∷ d)) (small (thermLimitAt c)))))
 
   flag-is : flagAfter c (contextBy e d) (flag c d) ≡ flag c (e ∷ d)
-  unfolding flagAfter flag channelRegistersBy
+  unfolding flagAtSample flagAfter flag channelRegistersBy
   flag-is =
       rw (restart-is e fine, sample-is c e, own-registers)
       (ap (cond (restarts e) false)
@@ -142,21 +142,21 @@ module _ (e : Event) (d : Taken) (fine : replies.outOfRange e ≡ false) (small 
   clears-is f = rw (restart-is e fine)
 
   high-is : highBitAfter c (contextBy e d) (highBit c d) ≡ highBit c (e ∷ d)
-  unfolding highBitAfter highBit channelRegistersBy registersBy
+  unfolding statusBitAfter highBitAfter highBit channelRegistersBy registersBy
   high-is =
       rw (clears-is (limitBitsIn c), sample-is c e, own-registers)
       (bit-on (samples c e) (channelOn c (e ∷ d)) (clears c (limitBitsIn c) e d) (highBit c d)
       (λ y. stands y .high (storedAt (highLimitAt c) (e ∷ d)) (small (highLimitAt c))))
 
   low-is : lowBitAfter c (contextBy e d) (lowBit c d) ≡ lowBit c (e ∷ d)
-  unfolding lowBitAfter lowBit channelRegistersBy registersBy
+  unfolding statusBitAfter lowBitAfter lowBit channelRegistersBy registersBy
   low-is =
       rw (clears-is (limitBitsIn c), sample-is c e, own-registers)
       (bit-on (samples c e) (channelOn c (e ∷ d)) (clears c (limitBitsIn c) e d) (lowBit c d)
       (λ y. stands y .low (storedAt (lowLimitAt c) (e ∷ d)) (small (lowLimitAt c))))
 
   therm-is : thermBitAfter c (contextBy e d) (latch c d) (latchAfter c (contextBy e d) (latch c d)) (thermBit c d) ≡ thermBit c (e ∷ d)
-  unfolding thermBitAfter thermBit registersBy
+  unfolding statusBitAfter thermBitAfter thermBit registersBy
   therm-is = rw (latch-is, clears-is (thermBitIn c), sample-is c e)
 
   error-is : errorAfter c (inputOf e) (diodeError c d) ≡ diodeError c (e ∷ d)

@@ -1,11 +1,13 @@
 // The reply to an event in plain numbers: the lowest number that applies.
 // Nothing above judges a number again.
+mod rows;
+
 use event::Answer;
 use event::Kind;
 use event::Refusal;
 use input::Input;
 ghost use mathlib.Core.Path.{_≡_};
-ghost use Rattle.judge.specs.Judged.{rowOf, fitsRow, noPowerIn, otherAddressIn, noPartIn, noRegisterIn, readOnlyIn, outOfRangeIn, badCodeIn};
+ghost use Rattle.judge.specs.Judged.{fitsRow, noPowerIn, otherAddressIn, noPartIn, noRegisterIn, readOnlyIn, outOfRangeIn, badCodeIn};
 ghost use Rattle.judge.specs.Judged.{oddLocalIn, notMonitoringIn, lowestIn};
 
 // What of the past a reply asks.
@@ -22,36 +24,6 @@ pub struct PlainRanges {
     pub arg: u32,
     pub val: u32,
     pub reading: u16,
-}
-
-fn row(low: u32, high: u32, arg: u32, val: u32, reading: u16) -> PlainRanges
-    ensures { λ r. ⌜ r ≡ record { low = low; high = high; arg = arg; val = val; reading = reading } ⌝ }
-{
-    PlainRanges {
-        low,
-        high,
-        arg,
-        val,
-        reading,
-    }
-}
-
-// The row of a kind by its place; what is no kind carries nothing.
-fn row_of(kind: u8) -> PlainRanges
-    ensures { λ r. ⌜ r ≡ rowOf kind ⌝ }
-{
-    match kind {
-        0 => row(44, 46, 1, 1, 2048),
-        1 => row(0, 127, 255, 255, 2048),
-        2 => row(0, 127, 255, 0, 2048),
-        3 => row(0, 127, 0, 0, 2048),
-        4 => row(0, 2, 0, 2147483648, 2047),
-        5 => row(1, 2, 0, 255, 2048),
-        6 => row(0, 0, 0, 1, 2048),
-        7 => row(0, 0, 0, 0, 2048),
-        8 => row(1, 2, 0, 0, 2048),
-        _ => row(0, 0, 0, 0, 2048),
-    }
 }
 
 fn fits_row(r: PlainRanges, i: Input) -> bool
@@ -107,7 +79,7 @@ fn read_only(i: Input) -> bool
 fn out_of_range(i: Input) -> bool
     ensures { λ b. ⌜ b ≡ outOfRangeIn i ⌝ }
 {
-    !fits_row(row_of(i.kind), i)
+    !fits_row(rows::row_of(i.kind), i)
 }
 
 fn bad_code(i: Input) -> bool

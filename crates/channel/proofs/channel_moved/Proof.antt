@@ -3,23 +3,50 @@ use borrow.Author.Needs.{needs}
 use Rattle.channel.proofs.channel_moved.Statement.{statement}
 use Rattle.channel.proofs.channel_moved.Tie as tie
 
-latch-after-requires : tie.Need-latch-after-requires
-latch-after-requires c κs = search needs
+channel-registers-of-requires : tie.Need-channel-registers-of-requires
+channel-registers-of-requires c κs = search needs
+
+sampled-requires : tie.Need-sampled-requires
+sampled-requires c κs = search needs
+
+latched-requires : tie.Need-latched-requires
+latched-requires c κs = search needs
+
+flag-at-sample-requires : tie.Need-flag-at-sample-requires
+flag-at-sample-requires c κs = search needs
+
+tmin-requires : tie.Need-tmin-requires
+tmin-requires c κs = search needs
+
+running-requires : tie.Need-running-requires
+running-requires c κs = search needs
+
+flag-at-sample-requires-2 : tie.Need-flag-at-sample-requires-2
+flag-at-sample-requires-2 c κs = search needs
+
+limit-bits-in-requires : tie.Need-limit-bits-in-requires
+limit-bits-in-requires c κs = search needs
 
 reading-after-requires : tie.Need-reading-after-requires
 reading-after-requires c κs = search needs
 
-flag-after-requires : tie.Need-flag-after-requires
-flag-after-requires c κs = search needs
+is-high-requires : tie.Need-is-high-requires
+is-high-requires c κs = search needs
 
-high-bit-after-requires : tie.Need-high-bit-after-requires
-high-bit-after-requires c κs = search needs
+bit-after-requires : tie.Need-bit-after-requires
+bit-after-requires c κs = search needs
 
-low-bit-after-requires : tie.Need-low-bit-after-requires
-low-bit-after-requires c κs = search needs
+is-low-requires : tie.Need-is-low-requires
+is-low-requires c κs = search needs
 
-therm-bit-after-requires : tie.Need-therm-bit-after-requires
-therm-bit-after-requires c κs = search needs
+bit-after-requires-2 : tie.Need-bit-after-requires-2
+bit-after-requires-2 c κs = search needs
+
+therm-bit-in-requires : tie.Need-therm-bit-in-requires
+therm-bit-in-requires c κs = search needs
+
+bit-after-requires-3 : tie.Need-bit-after-requires-3
+bit-after-requires-3 c κs = search needs
 
 error-after-requires : tie.Need-error-after-requires
 error-after-requires c κs = search needs
@@ -31,11 +58,20 @@ pub channel-moved-spec : {M : Type 1} → statement M
 channel-moved-spec =
     tie.close
     (tie.spec
-    latch-after-requires
+    channel-registers-of-requires
+    sampled-requires
+    latched-requires
+    flag-at-sample-requires
+    tmin-requires
+    running-requires
+    flag-at-sample-requires-2
+    limit-bits-in-requires
     reading-after-requires
-    flag-after-requires
-    high-bit-after-requires
-    low-bit-after-requires
-    therm-bit-after-requires
+    is-high-requires
+    bit-after-requires
+    is-low-requires
+    bit-after-requires-2
+    therm-bit-in-requires
+    bit-after-requires-3
     error-after-requires
     returns)

@@ -1,4 +1,5 @@
-use Rattle.judge.proofs.Laws.{no-power, other-address, no-part, no-register, read-only, out-of-range, bad-code, odd-local, not-monitoring, accepted}
+use Rattle.judge.specs.Judged.{lowestIn}
+use Rattle.judge.proofs.Laws.{given, passed}
 use borrow.Author.Needs.{needs}
 use Rattle.judge.proofs.reply.Statement.{statement}
 use Rattle.judge.proofs.reply.Tie as tie
@@ -31,34 +32,44 @@ not-monitoring-requires : tie.Need-not-monitoring-requires
 not-monitoring-requires c κs = search needs
 
 returns : tie.Need-returns
-returns c = search no-power
+unfolding lowestIn
+returns c = search (given, passed) depth 30
 
 returns-2 : tie.Need-returns-2
-returns-2 c = search other-address
+unfolding lowestIn
+returns-2 c = search (given, passed) depth 30
 
 returns-3 : tie.Need-returns-3
-returns-3 c = search no-part
+unfolding lowestIn
+returns-3 c = search (given, passed) depth 30
 
 returns-4 : tie.Need-returns-4
-returns-4 c = search no-register
+unfolding lowestIn
+returns-4 c = search (given, passed) depth 30
 
 returns-5 : tie.Need-returns-5
-returns-5 c = search read-only
+unfolding lowestIn
+returns-5 c = search (given, passed) depth 30
 
 returns-6 : tie.Need-returns-6
-returns-6 c = search out-of-range
+unfolding lowestIn
+returns-6 c = search (given, passed) depth 30
 
 returns-7 : tie.Need-returns-7
-returns-7 c = search bad-code
+unfolding lowestIn
+returns-7 c = search (given, passed) depth 30
 
 returns-8 : tie.Need-returns-8
-returns-8 c = search odd-local
+unfolding lowestIn
+returns-8 c = search (given, passed) depth 30
 
 returns-9 : tie.Need-returns-9
-returns-9 c = search not-monitoring
+unfolding lowestIn
+returns-9 c = search (given, passed) depth 30
 
 returns-10 : tie.Need-returns-10
-returns-10 c = search accepted
+unfolding lowestIn
+returns-10 c = search passed depth 30
 
 pub reply-spec : {M : Type 1} → statement M
 reply-spec =

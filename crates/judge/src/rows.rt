@@ -1,0 +1,103 @@
+// What the numbers of each kind may be, by its place in the table of kinds.
+use super::PlainRanges;
+ghost use mathlib.Core.Path.{_≡_};
+ghost use Rattle.judge.specs.Judged.{rowOf};
+
+// The largest byte: of a register's address, a value, a count.
+const BYTE: u32 = 255;
+
+// Any reading, and the mark of a number that is none.
+const ANY: u16 = 2048;
+
+const ROWS: [PlainRanges; 9] = [
+    // power
+    PlainRanges {
+        low: 44,
+        high: 46,
+        arg: 1,
+        val: 1,
+        reading: ANY,
+    },
+    // write
+    PlainRanges {
+        low: 0,
+        high: 127,
+        arg: BYTE,
+        val: BYTE,
+        reading: ANY,
+    },
+    // point
+    PlainRanges {
+        low: 0,
+        high: 127,
+        arg: BYTE,
+        val: 0,
+        reading: ANY,
+    },
+    // read
+    PlainRanges {
+        low: 0,
+        high: 127,
+        arg: 0,
+        val: 0,
+        reading: ANY,
+    },
+    // sample
+    PlainRanges {
+        low: 0,
+        high: 2,
+        arg: 0,
+        val: 2147483648,
+        reading: 2047,
+    },
+    // tach
+    PlainRanges {
+        low: 1,
+        high: 2,
+        arg: 0,
+        val: BYTE,
+        reading: ANY,
+    },
+    // pin
+    PlainRanges {
+        low: 0,
+        high: 0,
+        arg: 0,
+        val: 1,
+        reading: ANY,
+    },
+    // clock
+    PlainRanges {
+        low: 0,
+        high: 0,
+        arg: 0,
+        val: 0,
+        reading: ANY,
+    },
+    // period
+    PlainRanges {
+        low: 1,
+        high: 2,
+        arg: 0,
+        val: 0,
+        reading: ANY,
+    },
+];
+
+// The row of a kind; what is no kind carries nothing.
+pub fn row_of(kind: u8) -> PlainRanges
+    ensures { λ r. ⌜ r ≡ rowOf kind ⌝ }
+{
+    let at = kind as usize;
+    if at < 9 {
+        ROWS[at]
+    } else {
+        PlainRanges {
+            low: 0,
+            high: 0,
+            arg: 0,
+            val: 0,
+            reading: ANY,
+        }
+    }
+}
