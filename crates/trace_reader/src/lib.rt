@@ -32,7 +32,8 @@ pub fn moved<'a>(r: TraceReader<'a>, at: usize) -> TraceReader<'a>
 
 // The line at the reader's place, as a part of the text that it holds.
 pub fn current<'a>(r: TraceReader<'a>) -> &'a [u8]
-    ensures { λ s. ⌜ (now s ≡ lineAt (now (r .entry .text)) (r .entry .at)) × (IsPart s (r .entry .text) (startOf (now (r .entry .text)) (r .entry .at))) ⌝ }
+    ensures { λ s. ⌜ (now s ≡ lineAt (now (r .entry .text)) (r .entry .at))
+        × (IsPart s (r .entry .text) (startOf (now (r .entry .text)) (r .entry .at))) ⌝ }
 {
     line::line_at(r.text, r.at)
 }

@@ -1,0 +1,4 @@
+pub mod Answer
+pub mod Told
+pub mod Thin
+pub mod Through
