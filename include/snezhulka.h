@@ -10,8 +10,8 @@
 extern "C" {
 #endif
 
-/* What snezhulka_replay and snezhulka_steps give where input or buffer has the wrong size (reply 11); the buffer is
-   then as it was. */
+/* What snezhulka_replay, snezhulka_steps and snezhulka_wrong_line give where input or buffer has the wrong size (reply 11);
+   the buffer is then as it was. */
 #define SNEZHULKA_WRONG_SIZE SIZE_MAX
 
 /* Replays a trace text of at most 65,536 bytes into `report` and gives the length of the report.
@@ -34,6 +34,10 @@ size_t snezhulka_image(const int32_t *numbers, size_t count, uint8_t *image, siz
    well-formed or does not fit. Gives how many bytes that are: the same that the text starts with, since an event has one
    text only. The other bytes of `copy` are as they were. */
 size_t snezhulka_rewrite(const uint8_t *text, size_t text_len, uint8_t *copy, size_t copy_len);
+
+/* Puts the first wrong line of a trace text, without its newline, into `line`, from its start, and gives its length: 0 where
+   no line is wrong, or the wrong one is empty or missing. The other bytes of `line` are as they were. */
+size_t snezhulka_wrong_line(const uint8_t *text, size_t text_len, uint8_t *line, size_t line_len);
 
 #ifdef __cplusplus
 }

@@ -58,7 +58,8 @@ kept d t at {d′} {p} {a} hp y hd = go (leb (at + length t) (length d)) refl
     go false h = hd ∙ rw h
 
 -- where the copy ends, so much of the text stands there
-pub stands-there : (s d0 : List ℕ) {out : ℕ} (at : ℕ) {d : List ℕ} → out ≡ copyEnd s (length d0) → out ≡ at → d ≡ sets d0 0 (take at s) → d ≡ sets d0 0 (take (copyEnd s (length d0)) s)
+pub stands-there : (s d0 : List ℕ) {out : ℕ} (at : ℕ) {d : List ℕ} → out ≡ copyEnd s (length d0) → out ≡ at → d ≡ sets d0 0 (take at s)
+    → d ≡ sets d0 0 (take (copyEnd s (length d0)) s)
 stands-there s d0 at e same h = rw (← e, same) h
 
 -- ---- the loop: the copy of the text up to `at` stands in d, which was d0

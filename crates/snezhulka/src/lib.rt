@@ -4,15 +4,17 @@
 // size_t snezhulka_steps(const int32_t *numbers, size_t count, uint8_t *outcomes, size_t outcomes_len);
 // size_t snezhulka_image(const int32_t *numbers, size_t count, uint8_t *image, size_t image_len);
 // size_t snezhulka_rewrite(const uint8_t *text, size_t text_len, uint8_t *copy, size_t copy_len);
+// size_t snezhulka_wrong_line(const uint8_t *text, size_t text_len, uint8_t *line, size_t line_len);
 ghost use mathlib.Core.Path.{_≡_};
 ghost use lib.ListN.{length, take};
 ghost use lib.Seq.{sets};
 ghost use Rattle.event.specs.Answers.{numberOf};
-ghost use Rattle.buffer.specs.Put.{endOf};
+ghost use Rattle.buffer.specs.Put.{putOf, heldOf, endOf};
 ghost use Rattle.player.specs.Report.{replayAnswer, replayBuffer};
 ghost use Rattle.stepper.specs.Steps.{stepsAnswer, stepsBuffer};
 ghost use Rattle.imager.specs.Image.{imageAfter, imageLeft};
 ghost use Rattle.rewriter.specs.Rewritten.{copyEnd};
+ghost use Rattle.rewriter.specs.Wrong.{wrongLine};
 ghost use Rattle.snezhulka.specs.Exported.{noLength};
 
 // What a refusal is told by: the largest number.
@@ -53,7 +55,18 @@ pub extern "C" fn snezhulka_image(numbers: &[i32], image: &mut [u8]) -> usize
 #[no_mangle]
 pub extern "C" fn snezhulka_rewrite(text: &[u8], copy: &mut [u8]) -> usize
     ensures { λ r. ⌜ r ≡ copyEnd (now (text .entry)) (length (now (copy .entry))) ⌝ }
-    ensures { λ _. ⌜ now (copy .exit) ≡ sets (now (copy .entry)) 0 (take (copyEnd (now (text .entry)) (length (now (copy .entry)))) (now (text .entry))) ⌝ }
+    ensures { λ _. ⌜ now (copy .exit)
+        ≡ sets (now (copy .entry)) 0 (take (copyEnd (now (text .entry)) (length (now (copy .entry)))) (now (text .entry))) ⌝ }
 {
     rewriter::rewrite(text, copy)
+}
+
+// The first wrong line of a trace, without its newline, in the buffer: how long it is, 0 where no line is wrong or the wrong
+// one is empty or missing; or the largest number, where the buffer is too short for it, and the buffer as it was.
+#[no_mangle]
+pub extern "C" fn snezhulka_wrong_line(text: &[u8], line: &mut [u8]) -> usize
+    ensures { λ r. ⌜ r ≡ endOf (putOf (now (line .entry)) 0 (wrongLine (now (text .entry)))) noLength ⌝ }
+    ensures { λ _. ⌜ now (line .exit) ≡ heldOf (now (line .entry)) 0 (wrongLine (now (text .entry))) ⌝ }
+{
+    buffer::end_of(rewriter::wrong_line(text, line), REFUSED)
 }

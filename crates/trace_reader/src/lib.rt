@@ -44,3 +44,10 @@ pub fn read_at(text: &[u8], at: usize) -> Reading
 {
     next(moved(new(text), at))
 }
+
+// The line at a place of a text, as a part of it, by a reader in the same way.
+pub fn line_of(text: &[u8], at: usize) -> &[u8]
+    ensures { λ r. ⌜ (now r ≡ lineAt (now (text .entry)) at) × (IsPart r (text .entry) (startOf (now (text .entry)) at)) ⌝ }
+{
+    current(moved(new(text), at))
+}

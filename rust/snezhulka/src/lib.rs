@@ -1,5 +1,5 @@
 //! Safe calls of the proved fan keeper: a trace text in and a report out, or events in and outcomes or a register
-//! image out; and a trace text read and written again.
+//! image out; a trace text read and written again; and its first wrong line.
 
 use std::fmt;
 
@@ -39,6 +39,14 @@ mod library {
             text_len: usize,
             copy: *mut u8,
             copy_len: usize,
+        ) -> usize;
+
+        // How long the first wrong line is, or usize::MAX where the buffer is too short for it.
+        pub fn snezhulka_wrong_line(
+            text: *const u8,
+            text_len: usize,
+            line: *mut u8,
+            line_len: usize,
         ) -> usize;
     }
 }
@@ -134,6 +142,20 @@ pub fn image(events: &[Event], image: &mut [u8]) -> u8 {
 pub fn rewrite(text: &[u8], copy: &mut [u8]) -> usize {
     // Safety: as in `replay`.
     unsafe { library::snezhulka_rewrite(text.as_ptr(), text.len(), copy.as_mut_ptr(), copy.len()) }
+}
+
+/// Puts the first wrong line of `text`, without its newline, into `line` and gives its length: 0 where no line is wrong,
+/// or the wrong one is empty or missing. With `WrongSize` it is too long for `line`, no byte of which has changed.
+pub fn wrong_line(text: &[u8], line: &mut [u8]) -> Result<usize, WrongSize> {
+    // Safety: as in `replay`.
+    let end = unsafe {
+        library::snezhulka_wrong_line(text.as_ptr(), text.len(), line.as_mut_ptr(), line.len())
+    };
+    if end == usize::MAX {
+        Err(WrongSize)
+    } else {
+        Ok(end)
+    }
 }
 
 #[cfg(test)]

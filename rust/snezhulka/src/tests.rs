@@ -1,5 +1,6 @@
 use super::{
-    image, library, replay, report_of, rewrite, steps, Event, WrongSize, IMAGE_LENGTH, LONGEST_TEXT,
+    image, library, replay, report_of, rewrite, steps, wrong_line, Event, WrongSize, IMAGE_LENGTH,
+    LONGEST_TEXT,
 };
 
 // Power, a clock event and a write to a foreign address.
@@ -209,4 +210,31 @@ fn text_is_written_again_up_to_what_is_wrong_or_does_not_fit() {
     assert_eq!(rewrite(EXAMPLE, &mut short), first);
     assert_eq!(&short[..first], &EXAMPLE[..first]);
     assert!(short[first..].iter().all(|&byte| byte == 0xaa));
+}
+
+#[test]
+fn the_first_wrong_line_is_handed_back() {
+    let mut damaged = EXAMPLE.to_vec();
+    damaged[b"kind=power\nwho=44\narg=0\nval=0\nk".len()] = b'x';
+    let mut line = [0xaa; 20];
+    assert_eq!(wrong_line(&damaged, &mut line), Ok(10));
+    assert_eq!(&line[..10], b"kxnd=clock");
+    assert!(line[10..].iter().all(|&byte| byte == 0xaa));
+}
+
+#[test]
+fn no_line_of_a_right_text_is_wrong_and_a_missing_one_is_empty() {
+    let mut line = [0xaa; 20];
+    assert_eq!(wrong_line(EXAMPLE, &mut line), Ok(0));
+    assert_eq!(wrong_line(b"kind=power\nwho=44\n", &mut line), Ok(0));
+    assert_eq!(line, [0xaa; 20]);
+}
+
+#[test]
+fn a_wrong_line_that_does_not_fit_leaves_the_buffer() {
+    let mut line = [0xaa; 5];
+    assert_eq!(wrong_line(b"kind=x", &mut line), Err(WrongSize));
+    assert_eq!(line, [0xaa; 5]);
+    assert_eq!(wrong_line(b"kind=", &mut line), Ok(5));
+    assert_eq!(&line, b"kind=");
 }

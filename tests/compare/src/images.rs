@@ -58,14 +58,19 @@ pub fn second_image(events: &[Event], index: u64) -> Image {
     (keeper.image(&mut buffer), buffer)
 }
 
-/// The part of a text that is copied, and the length of the buffer: most often with room for all of it.
-fn copy_case(text: &[u8], index: u64) -> (&[u8], usize) {
-    let index = index as usize;
-    let part = if index % WHOLE == 0 {
+/// The part of a text that is copied, or searched for a wrong line.
+pub fn some_text(text: &[u8], index: u64) -> &[u8] {
+    if index % WHOLE as u64 == 0 {
         text
     } else {
         &text[..text.len().min(MOST_TEXT)]
-    };
+    }
+}
+
+/// That part, and the length of the buffer: most often with room for all of it.
+fn copy_case(text: &[u8], index: u64) -> (&[u8], usize) {
+    let part = some_text(text, index);
+    let index = index as usize;
     let less = if index % 3 == 0 { index % 200 } else { 0 };
     (part, part.len().saturating_sub(less))
 }

@@ -3,7 +3,7 @@
 //! compare [--traces N] [--seed S] [--program PATH]
 
 use compare::coverage::Coverage;
-use compare::{events, images, program, shrink, traces};
+use compare::{events, images, lines, program, shrink, traces};
 use std::process::ExitCode;
 use std::sync::atomic::{AtomicBool, AtomicU64, Ordering};
 use std::thread;
@@ -64,6 +64,11 @@ fn copy_differs(text: &[u8], index: u64) -> bool {
     images::proved_copy(text, index) != images::second_copy(text, index)
 }
 
+/// Whether the first wrong line differs.
+fn line_differs(text: &[u8], index: u64) -> bool {
+    lines::proved_line(text, index) != lines::second_line(text, index)
+}
+
 /// What one thread has counted, and the first trace that differs, if any.
 struct Finding {
     coverage: Coverage,
@@ -71,6 +76,7 @@ struct Finding {
     images: [u64; images::NUMBERS.len()],
     whole_copies: u64,
     part_copies: u64,
+    lines: [u64; lines::ENDS.len()],
     different: Option<u64>,
 }
 
@@ -82,12 +88,13 @@ impl Finding {
             images: [0; images::NUMBERS.len()],
             whole_copies: 0,
             part_copies: 0,
+            lines: [0; lines::ENDS.len()],
             different: None,
         }
     }
 
     /// Compares one trace: the replay; where the text is right, the engine alone and the register image; the text
-    /// written again.
+    /// written again, and its first wrong line.
     fn take(&mut self, text: &[u8], index: u64) {
         let expected = second_report(text);
         let report = snezhulka::report_of(text);
@@ -96,8 +103,9 @@ impl Finding {
         self.engine_traces += u64::from(by_engine.is_some());
         let image_alike = events.is_none_or(|events| self.take_image(&events, index));
         let copy_alike = self.take_copy(text, index);
+        let line_alike = self.take_line(text, index);
         let report_alike = report == expected && by_engine.is_none_or(|report| report == expected);
-        if report_alike && image_alike && copy_alike {
+        if report_alike && image_alike && copy_alike && line_alike {
             self.coverage.count(&report);
         } else {
             self.different = Some(index);
@@ -122,6 +130,12 @@ impl Finding {
         copy == images::second_copy(text, index)
     }
 
+    fn take_line(&mut self, text: &[u8], index: u64) -> bool {
+        let line = lines::proved_line(text, index);
+        self.lines[lines::end_of(&line)] += 1;
+        line == lines::second_line(text, index)
+    }
+
     /// Adds what another thread has found.
     fn add(&mut self, other: &Finding) {
         self.coverage.add(&other.coverage);
@@ -131,6 +145,9 @@ impl Finding {
         }
         self.whole_copies += other.whole_copies;
         self.part_copies += other.part_copies;
+        for (mine, theirs) in self.lines.iter_mut().zip(other.lines) {
+            *mine += theirs;
+        }
         self.different = self.different.into_iter().chain(other.different).min();
     }
 
@@ -151,6 +168,11 @@ impl Finding {
         for (number, seen) in images::NUMBERS.iter().zip(self.images) {
             if seen == 0 {
                 missing.push(format!("an image answered {number}"));
+            }
+        }
+        for (end, seen) in lines::ENDS.iter().zip(self.lines) {
+            if seen == 0 {
+                missing.push(end.to_string());
             }
         }
         missing
@@ -223,8 +245,10 @@ fn explain_in_process(seed: u64, index: u64) -> String {
         format!("the engine alone: {}", explain(seed, index, &engine_report))
     } else if image_differs(&text, index) {
         explain_other(seed, index, "the register image", &image_differs)
-    } else {
+    } else if copy_differs(&text, index) {
         explain_other(seed, index, "the text written again", &copy_differs)
+    } else {
+        explain_other(seed, index, "the first wrong line", &line_differs)
     }
 }
 
@@ -262,6 +286,10 @@ fn run() -> Result<(), String> {
     println!(
         "register images answered 0, 1, 10, 11: {:?} times; texts written again whole {}, in part {}",
         finding.images, finding.whole_copies, finding.part_copies
+    );
+    println!(
+        "first wrong lines that are none or empty, put, too long: {:?}",
+        finding.lines
     );
     println!(
         "compared {} traces, {} events, all alike; {} of the traces with the engine alone too",

@@ -37,6 +37,14 @@ pub fn whole_events(text: &[u8], room: usize) -> usize {
     end
 }
 
+/// The first wrong line, without its newline: the one whose number the report ends with; empty where none is wrong.
+pub fn wrong_line(text: &[u8]) -> &[u8] {
+    let mut reader = Reader::new(text);
+    while reader.place < text.len() && reader.event().is_some() {}
+    let mut lines = text.split(|&c| c == b'\n');
+    lines.nth(reader.line as usize - 1).unwrap_or_default()
+}
+
 /// The text, the place of the next line, and the number of that line from 1.
 struct Reader<'a> {
     text: &'a [u8],
