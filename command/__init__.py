@@ -1,0 +1,1 @@
+"""The parts of ./keeper; main.py has the table of the commands."""

@@ -1,0 +1,109 @@
+"""What is known of the chip after each event, from the trace and the report: it says what was accepted, data, pins and duties."""
+import collections
+import dataclasses
+
+from command.registers import (CHARACTERISTICS, CONFIG2, HIGH, LOW, REGISTERS, RESET_BIT, SPIN_UP, STATUS, TACH_LIMIT, THERM,
+                               channel_enabled, degrees, tach_enabled)
+
+# what: refused, power, reset, status (part: register, value: byte), high, low (channel, limit), over (fan, count), failed (fan, count)
+Mark = collections.namedtuple("Mark", "what part value", defaults=(None, None))
+AFTER_POWER = {address: register.reset for address, register in REGISTERS.items()}
+RELEASE = 5  # degrees under its limit, where a THERM latch lets go
+
+
+@dataclasses.dataclass(frozen=True)
+class Chip:
+    """Readings are in eighths, None before the first sample; spins are the clock events that remain of the spin-ups."""
+
+    registers: dict = dataclasses.field(default_factory=lambda: AFTER_POWER)
+    pointer: int = 0
+    readings: tuple = (None, None, None)
+    latches: tuple = (False, False, False)
+    pin_low: bool = False
+    duties: tuple = (0, 0)
+    spins: tuple = (0, 0)
+    clocks: int = 0
+    marks: tuple = ()
+
+    def limit(self, limits, channel):
+        return degrees(self.registers[limits[channel]])
+
+
+def put(values, place, value):
+    return (*values[:place], value, *values[place + 1 :])
+
+
+def start(chip, event):
+    return Chip(clocks=chip.clocks, marks=(Mark("power"),))
+
+
+def write(chip, event):
+    if event.arg == CONFIG2 and event.val & RESET_BIT:
+        return Chip(pointer=CONFIG2, pin_low=chip.pin_low, clocks=chip.clocks, marks=(Mark("reset"),))
+    mask = REGISTERS[event.arg].mask
+    byte = event.val & mask | chip.registers[event.arg] & ~mask
+    return dataclasses.replace(chip, registers={**chip.registers, event.arg: byte}, pointer=event.arg)
+
+
+def sample(chip, event):
+    channel, reading = event.who, event.val
+    high, low, therm = (chip.limit(limits, channel) for limits in (HIGH, LOW, THERM))
+    latch = reading > 8 * therm or (chip.latches[channel] and reading >= 8 * (therm - RELEASE))
+    marks = [Mark("high", channel, high)] * (reading > 8 * high) + [Mark("low", channel, low)] * (reading < 8 * low)
+    return dataclasses.replace(
+        chip,
+        readings=put(chip.readings, channel, reading),
+        latches=put(chip.latches, channel, latch),
+        marks=tuple(marks) if channel_enabled(channel, chip.registers[CONFIG2]) else (),
+    )
+
+
+def tach(chip, event):
+    """A count is judged by the duty and the spin-up as they stood before it."""
+    fan = event.who - 1
+    if event.val <= chip.registers[TACH_LIMIT[fan]]:
+        return chip
+    judged = tach_enabled(fan, chip.registers[CONFIG2]) and chip.duties[fan] and not chip.spins[fan]
+    return dataclasses.replace(chip, marks=(Mark("failed" if judged else "over", fan, event.val),))
+
+
+ACCEPTED = {
+    "power": start,
+    "write": write,
+    "point": lambda chip, event: dataclasses.replace(chip, pointer=event.arg),
+    "read": lambda chip, event: chip,
+    "sample": sample,
+    "tach": tach,
+    "pin": lambda chip, event: dataclasses.replace(chip, pin_low=event.val == 0),
+    "clock": lambda chip, event: dataclasses.replace(chip, clocks=chip.clocks + 1),
+    "period": lambda chip, event: chip,
+}
+
+
+def spin_after(chip, event, fan, duty):
+    """A spin-up begins where the duty leaves 0 and at a failed count; a clock event counts it down, and duty 0 ends it."""
+    if duty == 0:
+        return 0
+    if chip.duties[fan] == 0 or Mark("failed", fan, event.val) in chip.marks:
+        return SPIN_UP[chip.registers[CHARACTERISTICS[fan]] & 7]
+    return max(0, chip.spins[fan] - (event.kind == "clock"))
+
+
+def after(chip, event, shown):
+    chip = dataclasses.replace(chip, marks=())
+    if shown.answer:
+        return dataclasses.replace(chip, marks=(Mark("refused", value=shown.answer),))
+    moved = ACCEPTED[event.kind](chip, event)
+    marks = (Mark("status", chip.pointer, shown.data),) if event.kind == "read" and chip.pointer in STATUS else moved.marks
+    duties = (shown.duty1, shown.duty2)
+    spins = tuple(spin_after(moved, event, fan, duty) for fan, duty in enumerate(duties))
+    return dataclasses.replace(moved, duties=duties, spins=spins, marks=marks)
+
+
+def follow(case):
+    """The chip after each event of a case."""
+    chip, chips = Chip(), []
+    for event, shown in zip(case.events, case.shown):
+        chip = after(chip, event, shown)
+        chips.append(chip)
+    return chips
