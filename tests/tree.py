@@ -1,0 +1,86 @@
+"""A copy of ./keeper in a tree of its own, so that no test proves anything or touches what is built here."""
+import os
+import pathlib
+import shutil
+import subprocess
+import sys
+
+ROOT = pathlib.Path(__file__).resolve().parent.parent
+PROGRAM = ROOT / "target" / "bin" / "replay"
+TOOLS = "cat cp dirname mkdir readlink sh".split()
+SECONDS = 60  # more than any use takes
+
+
+class Findings:
+    """What a test found wrong, and how much it looked at."""
+
+    def __init__(self):
+        self.faults, self.looked = [], 0
+
+    def check(self, right, words):
+        self.looked += 1
+        if not right:
+            self.faults.append(words)
+
+    def end(self, name, least):
+        """Prints them and ends. A test that looked at less than it should is a fault too."""
+        self.check(self.looked >= least, f"{self.looked} checks, and {least} were due")
+        print("\n".join([*self.faults, f"{name}: {self.looked} checks, {len(self.faults)} faults"]))
+        sys.exit(1 if self.faults else 0)
+
+
+class Tree:
+    """The command with the built program, or a stand-in for it; the folder of tools has no rt until one is put there."""
+
+    def __init__(self, room):
+        self.folder, self.tools = room / "tree", room / "tools"
+        for folder in (self.folder / "crates", self.folder / "target" / "bin", self.tools):
+            folder.mkdir(parents=True)
+        for tool in TOOLS:
+            (self.tools / tool).symlink_to(shutil.which(tool))
+        (self.tools / "python3").symlink_to(sys.executable)
+        shutil.copytree(ROOT / "command", self.folder / "command", ignore=shutil.ignore_patterns("__pycache__"))
+        for name in ("keeper", "VERSION"):
+            shutil.copy(ROOT / name, self.folder)
+        self.program = self.folder / "target" / "bin" / "replay"
+        self.restore()
+
+    def restore(self):
+        """The program as it was built, newer than the crates of the tree."""
+        shutil.copy(PROGRAM, self.program)
+
+    def stand_in(self, script):
+        """A shell script in place of the program; it gets the trace on standard input."""
+        self.program.unlink(missing_ok=True)
+        self.program.write_text(f"#!/bin/sh\n{script}\n")
+        self.program.chmod(0o755)
+
+    def reports(self, report):
+        """A stand-in that says this of every trace."""
+        (self.folder / "report").write_bytes(report)
+        self.stand_in(f"exec {self.tools / 'cat'} '{self.folder / 'report'}'")
+
+    def toolchain(self, script):
+        (self.tools / "rt").unlink(missing_ok=True)
+        if script:
+            (self.tools / "rt").write_text(script)
+            (self.tools / "rt").chmod(0o755)
+
+    def keeper(self, *words, given=b"", **others):
+        """Runs it. Standard input has what is given, unless there is another stdin."""
+        if "stdin" not in others:
+            others["input"] = given
+        others = {"stdout": subprocess.PIPE, "stderr": subprocess.PIPE, "cwd": self.folder, "timeout": SECONDS, **others}
+        return subprocess.run([self.folder / "keeper", *words], env={"PATH": str(self.tools)}, **others)
+
+
+def need_program():
+    if not PROGRAM.exists():
+        sys.exit("target/bin/replay is missing; rt check replay builds it")
+    if not os.access(ROOT / "keeper", os.X_OK):
+        sys.exit("keeper is missing, or cannot be run")
+
+
+def text_of(events):
+    """Events as `power 44 0 0, clock 0 0 0` to the text of a trace."""
+    return "".join("kind={}\nwho={}\narg={}\nval={}\n".format(*event.split()) for event in events.split(",")).encode()
