@@ -176,7 +176,8 @@ module _ (s : List ℕ) {m : Magnitude} (some : length s ≡ 0 → ⊥) where
   pub parse-minus-zero : {v : ℕ} → getD s 0 0 ≡ 45 → m ≡ capped (unsignedOf (take (length s - 1) (drop 1 s))) → m ≡ Value v → v ≡ 0 → Malformed ≡ parseOf s
   parse-minus-zero h e q z = rw (minus s some h e, q, z)
 
-  pub parse-minus : (v : ℕ) {r : Decimal} → getD s 0 0 ≡ 45 → m ≡ capped (unsignedOf (take (length s - 1) (drop 1 s))) → m ≡ Value v → (v ≡ 0 → ⊥) → r ≡ signedOf (Neg (v - 1)) → r ≡ parseOf s
+  pub parse-minus : (v : ℕ) {r : Decimal} → getD s 0 0 ≡ 45 → m ≡ capped (unsignedOf (take (length s - 1) (drop 1 s))) → m ≡ Value v → (v ≡ 0 → ⊥)
+      → r ≡ signedOf (Neg (v - 1)) → r ≡ parseOf s
   parse-minus zero h e q z a = absurd (z refl)
   parse-minus (suc v) h e q z a = rw (a, minus s some h e, q, sub-one)
 

@@ -45,7 +45,8 @@ unfolding slopeOf
 sum-fits above r m h k e = omega (arith, div-le-self (20 * above) r)
 
 module _ (flag : Bool) (m range x : ℕ) where
-  pub demand-on : {above n r : ℕ} → flag ≡ true → above ≡ x → n ≡ slopeOf above range → r ≡ min 240 (16 * m + n) → r ≡ cond flag (min 240 (16 * m + slopeOf x range)) 0
+  pub demand-on : {above n r : ℕ} → flag ≡ true → above ≡ x → n ≡ slopeOf above range → r ≡ min 240 (16 * m + n)
+      → r ≡ cond flag (min 240 (16 * m + slopeOf x range)) 0
   demand-on f a e q = simp (f, q, e, a)
 
   pub demand-off : flag ≡ false → 0 ≡ cond flag (min 240 (16 * m + slopeOf x range)) 0
@@ -84,7 +85,9 @@ module _ (a : ℕ) (fan : FanId) (channel : ChannelId) where
   assigned-all h = simp (ne-eqb a 0 (h .0 .0 .1), ne-eqb a 1 (h .0 .1), ne-eqb a 2 (h .1))
 
 module _ (config1 speeds : ℕ) (fan : FanId) (local remote1 remote2 : ℕ) {on : Bool} (e : on ≡ bitOf config1 7) where
-  pub target-auto : {x y z m n : ℕ} {f g h : Bool} → on ≡ true → n ≡ max x m → m ≡ max y z → x ≡ demandIf f local → f ≡ assignedBy (assignment config1) fan Local → y ≡ demandIf g remote1 → g ≡ assignedBy (assignment config1) fan Remote1 → z ≡ demandIf h remote2 → h ≡ assignedBy (assignment config1) fan Remote2 → n ≡ targetOf config1 speeds fan local remote1 remote2
+  pub target-auto : {x y z m n : ℕ} {f g h : Bool} → on ≡ true → n ≡ max x m → m ≡ max y z → x ≡ demandIf f local
+      → f ≡ assignedBy (assignment config1) fan Local → y ≡ demandIf g remote1 → g ≡ assignedBy (assignment config1) fan Remote1 → z ≡ demandIf h remote2
+      → h ≡ assignedBy (assignment config1) fan Remote2 → n ≡ targetOf config1 speeds fan local remote1 remote2
   unfolding targetOf
   target-auto t n m x f y g z h = simp (sym e ∙ t, n, m, x, f, y, g, z, h)
 

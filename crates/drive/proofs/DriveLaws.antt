@@ -54,7 +54,8 @@ module _ (s : Setting) (b : FanInput) (d : Drive) where
   unfolding drivenOf
   idle z = simp (eq-eqb _ _ z)
 
-  duty-is : (drivenOf s b d) .duty ≡ cond (wanted s) (cond (s .overridden) 240 (cond (ltb 0 (leftOf s b d)) 240 (cond (s .filtered) (cond (b .period) (nearer (s .rate) (s .target) (d .duty)) (d .duty)) (s .target)))) 0
+  duty-is : (drivenOf s b d) .duty ≡ cond (wanted s) (cond (s .overridden) 240
+      (cond (ltb 0 (leftOf s b d)) 240 (cond (s .filtered) (cond (b .period) (nearer (s .rate) (s .target) (d .duty)) (d .duty)) (s .target)))) 0
   unfolding drivenOf dutyOf
   duty-is = on-or-off (s .enabled) (s .overridden) (s .target) _
 
@@ -88,7 +89,8 @@ module _ (s : Setting) (b : FanInput) (d : Drive) where
           (λ t. ltb-true 0 (s .target) t)
           (λ t. absurd (true≢false (sym (simp (o, t, and-false) at w))))
 
-      going : 0 < s .target → 0 < d .duty → 0 < cond (ltb 0 (leftOf s b d)) 240 (cond (s .filtered) (cond (b .period) (nearer (s .rate) (s .target) (d .duty)) (d .duty)) (s .target))
+      going : 0 < s .target → 0 < d .duty
+          → 0 < cond (ltb 0 (leftOf s b d)) 240 (cond (s .filtered) (cond (b .period) (nearer (s .rate) (s .target) (d .duty)) (d .duty)) (s .target))
       going t k = search (positive, nearer-pos, needs)
 
   pub zero-duty : 0 < s .«spin_up» → (drivenOf s b d) .duty ≡ 0 → wanted s ≡ false

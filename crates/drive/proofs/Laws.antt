@@ -30,15 +30,18 @@ module _ (s : Setting) (period spinning : Bool) (was : ℕ) where
   unfolding dutyOf
   duty-spin p q r l = simp (p, q, ne-eqb _ _ r, l)
 
-  pub duty-period : {n : ℕ} → s .enabled ≡ true → s .overridden ≡ false → (s .target ≡ 0 → ⊥) → spinning ≡ false → s .filtered ≡ true → period ≡ true → n ≡ nearer (s .rate) (s .target) was → n ≡ dutyOf s period spinning was
+  pub duty-period : {n : ℕ} → s .enabled ≡ true → s .overridden ≡ false → (s .target ≡ 0 → ⊥) → spinning ≡ false → s .filtered ≡ true → period ≡ true
+      → n ≡ nearer (s .rate) (s .target) was → n ≡ dutyOf s period spinning was
   unfolding dutyOf
   duty-period p q r l f t e = simp (p, q, ne-eqb _ _ r, l, f, t) e
 
-  pub duty-kept : s .enabled ≡ true → s .overridden ≡ false → (s .target ≡ 0 → ⊥) → spinning ≡ false → s .filtered ≡ true → period ≡ false → was ≡ dutyOf s period spinning was
+  pub duty-kept : s .enabled ≡ true → s .overridden ≡ false → (s .target ≡ 0 → ⊥) → spinning ≡ false → s .filtered ≡ true → period ≡ false
+      → was ≡ dutyOf s period spinning was
   unfolding dutyOf
   duty-kept p q r l f t = simp (p, q, ne-eqb _ _ r, l, f, t)
 
-  pub duty-plain : s .enabled ≡ true → s .overridden ≡ false → (s .target ≡ 0 → ⊥) → spinning ≡ false → s .filtered ≡ false → s .target ≡ dutyOf s period spinning was
+  pub duty-plain : s .enabled ≡ true → s .overridden ≡ false → (s .target ≡ 0 → ⊥) → spinning ≡ false → s .filtered ≡ false
+      → s .target ≡ dutyOf s period spinning was
   unfolding dutyOf
   duty-plain p q r l f = simp (p, q, ne-eqb _ _ r, l, f)
 

@@ -1,7 +1,8 @@
 -- Document 01, "The reply numbers": the number and the data of each answer.
 use Prim.Native.Nat.{ℕ}
 use Rattle.event.specs.declared.Refusal.{Refusal}
-use Rattle.event.specs.declared.Refusal.the-variants.{NoPower, OtherAddress, NoSuchPart, NoSuchRegister, ReadOnly, OutOfRange, BadRangeCode, OddLocal, NotMonitoring, Malformed, WrongSize}
+use Rattle.event.specs.declared.Refusal.the-variants.{NoPower, OtherAddress, NoSuchPart, NoSuchRegister, ReadOnly, OutOfRange, BadRangeCode, OddLocal}
+use Rattle.event.specs.declared.Refusal.the-variants.{NotMonitoring, Malformed, WrongSize}
 use Rattle.event.specs.declared.Answer.{Answer}
 use Rattle.event.specs.declared.Answer.the-variants.{Done, Refused}
 

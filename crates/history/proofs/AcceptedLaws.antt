@@ -16,11 +16,13 @@ use Rattle.event.specs.Kinds.{placeOf, kindOf, isKind}
 use Rattle.event.specs.declared.Answer.{Answer}
 use Rattle.event.specs.declared.Answer.the-variants.{Done, Refused}
 use Rattle.event.specs.declared.Refusal.{Refusal}
-use Rattle.event.specs.declared.Refusal.the-variants.{NoPower, OtherAddress, NoSuchPart, NoSuchRegister, ReadOnly, OutOfRange, BadRangeCode, OddLocal, NotMonitoring}
+use Rattle.event.specs.declared.Refusal.the-variants.{NoPower, OtherAddress, NoSuchPart, NoSuchRegister, ReadOnly, OutOfRange, BadRangeCode, OddLocal}
+use Rattle.event.specs.declared.Refusal.the-variants.{NotMonitoring}
 use Rattle.event.specs.declared.Event.{Event}
 use Rattle.event.specs.declared.Kind.the-variants as kind
 use Rattle.rules.specs.Registers.{config2}
-use Rattle.rules.specs.Events.{who, arg, val, isNumber, natural, registerGiven, byteGiven, Ranges, ranges, unused, lies, fromTo, carried, rangesOf, writes, resets, restarts}
+use Rattle.rules.specs.Events.{who, arg, val, isNumber, natural, registerGiven, byteGiven, Ranges, ranges, unused, lies, fromTo, carried, rangesOf, writes}
+use Rattle.rules.specs.Events.{resets, restarts}
 use Rattle.rules.specs.Stored.{Taken, counts}
 use Rattle.rules.specs.Replies as replies
 use Rattle.rules.specs.Replies.{lowest, replyTo, accepts}

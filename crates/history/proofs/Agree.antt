@@ -62,7 +62,8 @@ module _ (e : Event) (d : Taken) (fine : replies.outOfRange e ≡ false) (small 
 -- a keeper that never had power has the chip of the empty list
 pub chip-in : {d : Taken} → Took d → chipIn (stateBy d) ≡ chipBy d
 chip-in none =
-    (unfold stateBy powered chipBy portBy registersBy channelRegistersBy fanRegistersBy channelsBy channelBy fanBy ownAddress storedAt pointer pinLow diodeError pulledBit temperature latch flag highBit lowBit thermBit eighthsOf spin failures atAlarm overridden thermAsserted alarmBit faultBit in
+    (unfold stateBy powered chipBy portBy registersBy channelRegistersBy fanRegistersBy channelsBy channelBy fanBy ownAddress storedAt pointer pinLow
+    diodeError pulledBit temperature latch flag highBit lowBit thermBit eighthsOf spin failures atAlarm overridden thermAsserted alarmBit faultBit in
     refl)
 chip-in (more {e = e} {d = d} go t) = (unfold stateBy in rw (on-after e d go))
 

@@ -11,7 +11,8 @@ use Rattle.integer.proofs.BoolLaws.{by-cases}
 use Rattle.event.specs.Answers.{numberOf, dataOf}
 use Rattle.event.specs.declared.Answer.{Answer}
 use Rattle.event.specs.declared.Answer.the-variants.{Done, Refused}
-use Rattle.event.specs.declared.Refusal.the-variants.{NoPower, OtherAddress, NoSuchPart, NoSuchRegister, ReadOnly, OutOfRange, BadRangeCode, OddLocal, NotMonitoring}
+use Rattle.event.specs.declared.Refusal.the-variants.{NoPower, OtherAddress, NoSuchPart, NoSuchRegister, ReadOnly, OutOfRange, BadRangeCode, OddLocal}
+use Rattle.event.specs.declared.Refusal.the-variants.{NotMonitoring}
 use Rattle.event.specs.declared.Event.{Event}
 use Rattle.rules.specs.Replies.{noPower, otherAddress, noPart, noRegister, readOnly, outOfRange, badCode, oddLocal, notMonitoring, lowest, accepts}
 use Rattle.judge.proofs.RightLaws.{right}

@@ -21,7 +21,8 @@ use Rattle.rules.specs.Stored.{Taken, storedAt, pointer, pinLow}
 use Rattle.rules.specs.Replies as replies
 use Rattle.rules.specs.Temperatures.{temperature, thermAsserted}
 use Rattle.rules.specs.Targets.{tminOf, rangeOf, flag, demand, target, overridden}
-use Rattle.rules.specs.Duties.{tachOn, Spin, left, prior, judgedIn, failedIn, spinUpStarts, givenAfter, sinceAfter, dutyAfter, spinAt, spinAfter, spin, judged, failed, failures, atAlarm, alarmBit, faultBit}
+use Rattle.rules.specs.Duties.{tachOn, Spin, left, prior, judgedIn, failedIn, spinUpStarts, givenAfter, sinceAfter, dutyAfter, spinAt, spinAfter, spin}
+use Rattle.rules.specs.Duties.{judged, failed, failures, atAlarm, alarmBit, faultBit}
 use Rattle.demand.specs.Demand.{demandOf}
 use Rattle.demand.proofs.SignedLaws.{faithful-demand}
 use Rattle.drive.specs.Drive.{dutyOf, startsOf, leftOf, driveAt, drivenOf}
@@ -41,7 +42,8 @@ use Rattle.history.proofs.HeldLaws.{Held}
 
 module _ (f : FanId) (d : Taken) where
   demand-is : Held d → (c : ChannelId)
-      → demandOf (flag c d) (speedCode f (storedAt speeds d)) (tminOf (storedAt (controlAt c) d)) (rangeOf (storedAt (controlAt c) d)) (measured (temperature c d)) ≡ demand f c d
+      → demandOf (flag c d) (speedCode f (storedAt speeds d)) (tminOf (storedAt (controlAt c) d)) (rangeOf (storedAt (controlAt c) d))
+      (measured (temperature c d)) ≡ demand f c d
   unfolding demand
   demand-is held c = faithful-demand (temperature c d) (measured (temperature c d)) (held c) _ _ _ _
 

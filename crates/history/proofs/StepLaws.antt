@@ -17,7 +17,8 @@ use Rattle.part.specs.declared.FanId.the-variants.{One, Two}
 use Rattle.event.specs.Kinds.{isKind}
 use Rattle.event.specs.declared.Event.{Event}
 use Rattle.event.specs.declared.Kind.the-variants as kind
-use Rattle.rules.specs.Registers.{config2, statusAt, offsetAt, highLimitAt, lowLimitAt, thermLimitAt, controlAt, speedAt, tachLimitAt, characteristicsAt, maskAt, resetAt}
+use Rattle.rules.specs.Registers.{config2, statusAt, offsetAt, highLimitAt, lowLimitAt, thermLimitAt, controlAt, speedAt, tachLimitAt, characteristicsAt}
+use Rattle.rules.specs.Registers.{maskAt, resetAt}
 use Rattle.rules.specs.Events.{who, arg, val, isNumber, natural, registerGiven, byteGiven, samples, measures, reads, writes, restarts}
 use Rattle.rules.specs.Stored.{Taken, powered, ownAddress, counts, storedAt, pointer, pinLow, errorGiven, diodeError, pulledBit}
 use Rattle.rules.specs.Replies as replies
@@ -29,7 +30,8 @@ use Rattle.reading.proofs.FaithfulLaws.{faithful}
 use Rattle.input.specs.Inputs.{plainOf, measured, inputOf, bitAfter}
 use Rattle.input.proofs.PlainLaws.{plain-is, sample-is}
 use Rattle.stored.specs.Stored.{storedAfter, channelRegistersAfter, fanRegistersAfter, registersAfter, channelRegistersOf}
-use Rattle.channel.specs.Channels.{readingAfter, flagAtSample, latchAfter, flagAfter, clearsBit, statusBitAfter, highBitAfter, lowBitAfter, thermBitAfter, errorIn, errorAfter, channelAfter, channelsAfter}
+use Rattle.channel.specs.Channels.{readingAfter, flagAtSample, latchAfter, flagAfter, clearsBit, statusBitAfter, highBitAfter, lowBitAfter, thermBitAfter}
+use Rattle.channel.specs.Channels.{errorIn, errorAfter, channelAfter, channelsAfter}
 use Rattle.channel.specs.declared.Channel.{Channel}
 use Rattle.chip.specs.Chips.{portAfter}
 use Rattle.chip.specs.declared.Port.{Port}

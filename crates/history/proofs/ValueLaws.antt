@@ -93,7 +93,8 @@ module _ (d : Taken) (v : storedAt device d ≡ 0x31) (c : storedAt company d �
   extended-same = rw (stands Local .rest, stands Remote1 .rest, stands Remote2 .rest)
 
   rows-same : All Same table
-  unfolding table registerAt value byteAt existsAt storedIn cells found chipBy portBy fanBy registersBy channelRegistersBy fanRegistersBy channelsBy channelBy statusOf status
+  unfolding table registerAt value byteAt existsAt storedIn cells found chipBy portBy fanBy registersBy channelRegistersBy fanRegistersBy channelsBy
+      channelBy statusOf status
   rows-same =
       refl ▹ refl ▹ refl ▹ refl ▹ extended-same ▹ refl ▹ refl ▹ refl ▹ stands Local .whole ▹ stands Remote1 .whole ▹ stands Remote2 .whole
       ▹ refl ▹ refl ▹ refl ▹ refl ▹ refl ▹ refl ▹ refl ▹ refl ▹ refl ▹ refl ▹ refl ▹ refl ▹ refl ▹ refl ▹ refl ▹ refl ▹ refl ▹ refl ▹ refl ▹ refl ▹ refl

@@ -47,15 +47,21 @@ stretched f d (e ∷ s) h y =
     (stretched f d s h (p .0), not-true _ (q .0), settled f d (e ∷ (s ++ h)) (q .1))
 
 ramp-stretch : stretches One 80 (rampedDown ++ spunUp) startedFiltered ≡ true
-unfolding stretches settles disturbs taken replyTo lowest rangesOf existsAt readOnlyAt maskAt resetAt says table powered ownAddress storedAt pointer pinLow temperature latch thermAsserted flag demand assignedBy targetOf target overridden rateOf spinUpOf nearer dutyAfter spinAfter spin duty failed mergedOf rangeOf
+unfolding stretches settles disturbs taken replyTo lowest rangesOf existsAt readOnlyAt maskAt resetAt says table powered ownAddress storedAt pointer
+    pinLow temperature latch thermAsserted flag demand assignedBy targetOf target overridden rateOf spinUpOf nearer dutyAfter spinAfter spin duty failed
+    mergedOf rangeOf
 ramp-stretch = refl
 
 flat-stretch : stretches One 80 (rampedDown ++ spunUp) started ≡ true
-unfolding stretches settles disturbs taken replyTo lowest rangesOf existsAt readOnlyAt maskAt resetAt says table powered ownAddress storedAt pointer pinLow temperature latch thermAsserted flag demand assignedBy targetOf target overridden rateOf spinUpOf nearer dutyAfter spinAfter spin duty failed mergedOf rangeOf
+unfolding stretches settles disturbs taken replyTo lowest rangesOf existsAt readOnlyAt maskAt resetAt says table powered ownAddress storedAt pointer
+    pinLow temperature latch thermAsserted flag demand assignedBy targetOf target overridden rateOf spinUpOf nearer dutyAfter spinAfter spin duty failed
+    mergedOf rangeOf
 flat-stretch = refl
 
 pub witness : Witness
-unfolding periodsIn outside taken replyTo lowest rangesOf existsAt readOnlyAt maskAt resetAt says table powered ownAddress storedAt pointer pinLow temperature latch thermAsserted flag demand assignedBy targetOf target overridden rateOf spinUpOf nearer dutyAfter spinAfter spin duty failed mergedOf rangeOf
+unfolding periodsIn outside taken replyTo lowest rangesOf existsAt readOnlyAt maskAt resetAt says table powered ownAddress storedAt pointer pinLow
+    temperature latch thermAsserted flag demand assignedBy targetOf target overridden rateOf spinUpOf nearer dutyAfter spinAfter spin duty failed
+    mergedOf rangeOf
 witness =
     record {
       stretch = stretched One 80 (rampedDown ++ spunUp) startedFiltered ramp-stretch;

@@ -70,7 +70,8 @@ given-back b0 b1 b2 b3 b4 b5 b6 b7 k = same (bitOf (packed b0 b1 b2 b3 b4 b5 b6 
 module _ (b0 b1 b2 b3 b4 b5 b6 b7 : Bool) where
   pub bit-packed : (k : ℕ) → k < 8 → bitOf (packed b0 b1 b2 b3 b4 b5 b6 b7) k ≡ getD (b0 ∷ b1 ∷ b2 ∷ b3 ∷ b4 ∷ b5 ∷ b6 ∷ b7 ∷ []) k false
   unfolding packed below same
-  bit-packed k l = same-is _ _ (at-below 8 (given-back b0 b1 b2 b3 b4 b5 b6 b7) (at-eight (λ b0 b1 b2 b3 b4 b5 b6 b7. below 8 (given-back b0 b1 b2 b3 b4 b5 b6 b7)) refl b0 b1 b2 b3 b4 b5 b6 b7) k l)
+  bit-packed k l = same-is _ _ (at-below 8 (given-back b0 b1 b2 b3 b4 b5 b6 b7)
+      (at-eight (λ b0 b1 b2 b3 b4 b5 b6 b7. below 8 (given-back b0 b1 b2 b3 b4 b5 b6 b7)) refl b0 b1 b2 b3 b4 b5 b6 b7) k l)
 
   pub bit-0 : bitOf (packed b0 b1 b2 b3 b4 b5 b6 b7) 0 ≡ b0
   bit-0 = bit-packed 0 (omega arith)
@@ -98,7 +99,8 @@ module _ (b0 b1 b2 b3 b4 b5 b6 b7 : Bool) where
 
   pub packed-small : packed b0 b1 b2 b3 b4 b5 b6 b7 < 256
   unfolding packed
-  packed-small = ltb-true (packed b0 b1 b2 b3 b4 b5 b6 b7) 256 (at-eight (λ b0 b1 b2 b3 b4 b5 b6 b7. ltb (packed b0 b1 b2 b3 b4 b5 b6 b7) 256) refl b0 b1 b2 b3 b4 b5 b6 b7)
+  packed-small = ltb-true (packed b0 b1 b2 b3 b4 b5 b6 b7) 256
+      (at-eight (λ b0 b1 b2 b3 b4 b5 b6 b7. ltb (packed b0 b1 b2 b3 b4 b5 b6 b7) 256) refl b0 b1 b2 b3 b4 b5 b6 b7)
 
 -- some bit is on, bit 5 counting only where it is let through
 abbrev left-by-mask : (b0 b1 b2 b3 b4 b5 b6 b7 on : Bool) → Bool
@@ -110,4 +112,5 @@ pub pending-law :
     ltb 0 (bitAnd (packed b0 b1 b2 b3 b4 b5 b6 b7) (cond on 0xFF 0xDF)) ≡ (b0 || (b1 || (b2 || (b3 || (b4 || ((b5 && on) || (b6 || b7)))))))
 unfolding packed same
 pending-law b0 b1 b2 b3 b4 b5 b6 b7 on =
-    same-is _ _ (at-one (left-by-mask b0 b1 b2 b3 b4 b5 b6 b7) (at-eight (λ b0 b1 b2 b3 b4 b5 b6 b7. one (left-by-mask b0 b1 b2 b3 b4 b5 b6 b7)) refl b0 b1 b2 b3 b4 b5 b6 b7) on)
+    same-is _ _ (at-one (left-by-mask b0 b1 b2 b3 b4 b5 b6 b7)
+    (at-eight (λ b0 b1 b2 b3 b4 b5 b6 b7. one (left-by-mask b0 b1 b2 b3 b4 b5 b6 b7)) refl b0 b1 b2 b3 b4 b5 b6 b7) on)

@@ -156,4 +156,5 @@ faithful t r e =
     made : Lifted 1024 r ((pos 8 *ℤ degrees (byteOf r)) +ℤ pos (remainderOf r))
     made =
         move 1024 (8 * ((byteOf r + 128) % 256) + remainderOf r) 1024 r _ refl (lossless .reading r (lift-reading t r e .1))
-        (more (remainderOf r) 1024 (8 * ((byteOf r + 128) % 256)) _ (times-eight 128 ((byteOf r + 128) % 256) (degrees (byteOf r)) (lift-byte (byteOf r) (omega arith))))
+        (more (remainderOf r) 1024 (8 * ((byteOf r + 128) % 256)) _
+        (times-eight 128 ((byteOf r + 128) % 256) (degrees (byteOf r)) (lift-byte (byteOf r) (omega arith))))

@@ -20,7 +20,8 @@ use Rattle.rules.specs.Replies.{History, taken}
 use Rattle.rules.specs.Targets.{rangeOf, demand, assignedBy}
 use Rattle.rules.specs.Duties.{enabled, tachOn, filtered, rate, rateOf, spinUpClocks, spinUpOf, left, spin, duty, atAlarm, alarmBit, faultBit}
 use Rattle.rules.specs.Shows.{status, byteAt, value, shown}
-use Rattle.rules.specs.PageWords.{register, byFan, outputBit, tachBit, filterBit, alarmStatus, faultStatus, dutyOut, control, rangeFigure, spinUpFigure, rateFigure, minimumCode, assignmentTable, isAssigned}
+use Rattle.rules.specs.PageWords.{register, byFan, outputBit, tachBit, filterBit, alarmStatus, faultStatus, dutyOut, control, rangeFigure}
+use Rattle.rules.specs.PageWords.{spinUpFigure, rateFigure, minimumCode, assignmentTable, isAssigned}
 use Rattle.rules.specs.PageDuties.{clocksLeft, forced, excess, demanded, toTurn}
 use Rattle.rules.proofs.TakenLaws.{took}
 use Rattle.rules.proofs.StoredLaws.{byte}

@@ -27,7 +27,8 @@ use Rattle.rules.specs.Shows.{byteAt, value, shown}
 use Rattle.rules.specs.PageWords.{write, sampled, turned, tenth, Accepted, bit, out, dutyOut, outputBit, filterBit, tminFigure, rateFigure, control}
 use Rattle.rules.specs.PageDuties.{running, aim, clocksLeft, forced, PageDuties}
 use Rattle.rules.proofs.TakenLaws.{accepted-is}
-use Rattle.rules.proofs.FanWordsLaws.{duty-is, left-is, alarm-is, spin-up-is, rate-is, minimum-is, control-is, demanded-is, assigned-is, enabled-by, filtered-by, turning-by, wanted-by, alarmed-by}
+use Rattle.rules.proofs.FanWordsLaws.{duty-is, left-is, alarm-is, spin-up-is, rate-is, minimum-is, control-is, demanded-is, assigned-is, enabled-by}
+use Rattle.rules.proofs.FanWordsLaws.{filtered-by, turning-by, wanted-by, alarmed-by}
 use Rattle.rules.proofs.CalmLaws.{no-restart, flag-same}
 use Rattle.rules.proofs.SoundLaws.{nearer-is, sound}
 use Rattle.rules.proofs.TurnLaws.{fresh-start, left-step, free-step, filter-step, turns-on}

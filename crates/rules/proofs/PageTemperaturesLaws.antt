@@ -119,7 +119,8 @@ page-temperatures h =
       statusStays = λ c e go s r p w. rw (accepted-is e h go) (bits-kept e (taken h) p w r c (rw s));
       statusByAnother = λ c other t n go.
           rw (accepted-is (sampled other t) h go)
-          (bits-kept (sampled other t) (taken h) (sampled-kind kind.Power other t) (sampled-kind kind.Write other t) (sampled-kind kind.Read other t) c (another c other t n));
+          (bits-kept (sampled other t) (taken h) (sampled-kind kind.Power other t) (sampled-kind kind.Write other t) (sampled-kind kind.Read other t) c
+          (another c other t n));
       returns = λ w f go p. rw (go, p);
       clears = λ w f go p. rw (accepted-is (read w (pos 0) (pos 0)) h go) (clears (taken h) w f p);
       keeps = λ w f go p. rw (accepted-is (read w (pos 0) (pos 0)) h go) (keeps (taken h) w f p);

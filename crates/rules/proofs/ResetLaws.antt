@@ -80,7 +80,8 @@ module _ (d : Taken) (w : ℤ) (b : ℕ) (seven : bitOf b 7 ≡ true) where
     low-status :
         (f : FanId) →
         value (byFan 0x02 0x03 f) (reset w b ∷ d) ≡ packed true false false false false (diodeError (byFan Remote1 Remote2 f) d) false false
-    unfolding value byteAt existsAt status storedAt resetAt latch highBit lowBit thermBit diodeError pulledBit faultBit alarmBit atAlarm failed overridden pinLow
+    unfolding value byteAt existsAt status storedAt resetAt latch highBit lowBit thermBit diodeError pulledBit faultBit alarmBit atAlarm failed
+        overridden pinLow
     low-status One = rw (seven, low)
     low-status Two = rw (seven, low)
 

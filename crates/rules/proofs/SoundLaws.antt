@@ -15,7 +15,8 @@ use Rattle.rules.specs.Events.{periods}
 use Rattle.rules.specs.Registers.{characteristicsAt}
 use Rattle.rules.specs.Stored.{Taken, storedAt}
 use Rattle.rules.specs.Targets.{target, overridden}
-use Rattle.rules.specs.Duties.{enabled, filtered, rate, spinUpOf, spinUpClocks, Spin, left, spinUpStarts, givenAfter, sinceAfter, nearer, dutyAfter, spinAt, spinAfter, prior, spin}
+use Rattle.rules.specs.Duties.{enabled, filtered, rate, spinUpOf, spinUpClocks, Spin, left, spinUpStarts, givenAfter, sinceAfter, nearer, dutyAfter}
+use Rattle.rules.specs.Duties.{spinAt, spinAfter, prior, spin}
 
 -- ---- one step of the filter
 

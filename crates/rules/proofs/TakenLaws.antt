@@ -14,7 +14,8 @@ use Rattle.event.specs.declared.Event.{Event}
 use Rattle.event.specs.declared.Kind.the-variants as kind
 use Rattle.rules.specs.Events.{who}
 use Rattle.rules.specs.Stored.{Taken, powered, ownAddress}
-use Rattle.rules.specs.Replies.{noPower, otherAddress, noPart, noRegister, readOnly, outOfRange, badCode, oddLocal, lowest, replyTo, accepts, History, taken, accepted}
+use Rattle.rules.specs.Replies.{noPower, otherAddress, noPart, noRegister, readOnly, outOfRange, badCode, oddLocal, lowest, replyTo, accepts, History}
+use Rattle.rules.specs.Replies.{taken, accepted}
 use Rattle.rules.proofs.EventLaws.{up-to, who-lies}
 
 -- a test that refuses did not apply

@@ -18,7 +18,9 @@ use Rattle.rules.specs.Replies.{History, taken}
 use Rattle.rules.specs.Temperatures.{temperature}
 use Rattle.rules.specs.Targets.{flag, target, overridden}
 use Rattle.rules.specs.Duties.{left, spin, failures}
-use Rattle.rules.specs.PageWords.{write, read, sampled, counted, turned, tenth, Accepted, register, bit, out, dutyOut, byFan, outputBit, tachBit, filterBit, alarmStatus, faultStatus, tminFigure, rangeFigure, control, spinUpFigure, rateFigure, minimumCode, isAssigned}
+use Rattle.rules.specs.PageWords.{write, read, sampled, counted, turned, tenth, Accepted, register, bit, out, dutyOut, byFan, outputBit, tachBit}
+use Rattle.rules.specs.PageWords.{filterBit, alarmStatus, faultStatus, tminFigure, rangeFigure, control, spinUpFigure, rateFigure, minimumCode}
+use Rattle.rules.specs.PageWords.{isAssigned}
 
 -- the run flag of a channel; the target and the clocks left of the spin-up of a fan; override; the run of failures
 abbrev pub running : ChannelId → History → Bool

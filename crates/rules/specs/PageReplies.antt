@@ -84,7 +84,8 @@ writableBits a =
 
 pub record PageReplies (h : History) : Type 0 where
   -- the replies of each kind, in the order of the table; power needs none of the past
-  pub powers : (w a v : ℤ) → replyNumber (power w a v) h ≡ first (not (between (pos 44) (pos 46) w && (between (pos 0) (pos 1) a && between (pos 0) (pos 1) v))) 6 0
+  pub powers : (w a v : ℤ)
+      → replyNumber (power w a v) h ≡ first (not (between (pos 44) (pos 46) w && (between (pos 0) (pos 1) a && between (pos 0) (pos 1) v))) 6 0
   pub writes :
       (w a v : ℤ) → replyNumber (write w a v) h
       ≡ first (not (powerOn h)) 1 (first (not (ours w h)) 2 (first (not (oneOf registers a)) 4 (first (oneOf readOnlyRegisters a) 5

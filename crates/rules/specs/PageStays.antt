@@ -14,7 +14,8 @@ use Rattle.event.specs.declared.Event.{Event}
 use Rattle.event.specs.declared.Kind.the-variants as kind
 use Rattle.rules.specs.Stored.{ownAddress}
 use Rattle.rules.specs.Replies.{History, taken, accepted}
-use Rattle.rules.specs.PageWords.{power, write, pin, sampled, counted, Accepted, register, bit, replyNumber, dutyOut, byChannel, byFan, channelBit, highStatus, lowStatus, thermStatus, alarmStatus, faultStatus, outputBit, tachBit}
+use Rattle.rules.specs.PageWords.{power, write, pin, sampled, counted, Accepted, register, bit, replyNumber, dutyOut, byChannel, byFan, channelBit}
+use Rattle.rules.specs.PageWords.{highStatus, lowStatus, thermStatus, alarmStatus, faultStatus, outputBit, tachBit}
 use Rattle.rules.specs.PageReplies.{oneOf, registers, powerOn, powerImage}
 use Rattle.rules.specs.PageTemperatures.{eighthsIn, reset}
 use Rattle.rules.specs.PageDuties.{running, eighthsRead, clocksLeft, forced, failureRun, judgedAfter}

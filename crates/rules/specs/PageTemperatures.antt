@@ -19,7 +19,8 @@ use Rattle.rules.specs.Replies.{History, taken}
 use Rattle.rules.specs.Temperatures.{degrees, latch}
 use Rattle.rules.specs.Targets.{flag}
 use Rattle.rules.specs.Duties.{left, spin, failures}
-use Rattle.rules.specs.PageWords.{power, write, read, sampled, pulledLow, letGo, Accepted, register, bit, out, dataOut, byChannel, byFan, highDegrees, lowDegrees, thermDegrees, channelBit, highStatus, lowStatus, thermStatus, alarmStatus, faultStatus}
+use Rattle.rules.specs.PageWords.{power, write, read, sampled, pulledLow, letGo, Accepted, register, bit, out, dataOut, byChannel, byFan, highDegrees}
+use Rattle.rules.specs.PageWords.{lowDegrees, thermDegrees, channelBit, highStatus, lowStatus, thermStatus, alarmStatus, faultStatus}
 
 -- the remainder of a channel in 0x06: remote 1 in bits 2:0, remote 2 in 5:3, local in quarters in 7:6
 abbrev pub eighthsIn : ChannelId → History → ℕ

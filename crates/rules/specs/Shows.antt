@@ -30,9 +30,11 @@ use Rattle.rules.specs.Duties.{duty, failures, alarmBit, faultBit}
 -- temperatures 4: the status registers 0x02 and 0x03, bit 0 first
 unfoldable pub status : FanId → Taken → ℕ
 status One d =
-    packed (alarmBit One d) (faultBit One d) (highBit Remote1 d) (lowBit Remote1 d) (thermBit Remote1 d) (diodeError Remote1 d) (highBit Local d) (lowBit Local d)
+    packed (alarmBit One d) (faultBit One d) (highBit Remote1 d) (lowBit Remote1 d)
+    (thermBit Remote1 d) (diodeError Remote1 d) (highBit Local d) (lowBit Local d)
 status Two d =
-    packed (alarmBit Two d) (faultBit Two d) (highBit Remote2 d) (lowBit Remote2 d) (thermBit Remote2 d) (diodeError Remote2 d) (thermBit Local d) (pulledBit d)
+    packed (alarmBit Two d) (faultBit Two d) (highBit Remote2 d) (lowBit Remote2 d)
+    (thermBit Remote2 d) (diodeError Remote2 d) (thermBit Local d) (pulledBit d)
 
 -- temperatures 1, Table 22 of 000: remote 1 in bits 2:0, remote 2 in 5:3, local in quarters in 7:6
 abbrev pub remaindersByte : (local remote1 remote2 : ℤ) → ℕ

@@ -36,7 +36,8 @@ use Rattle.history.specs.Agreement.{run}
 use Rattle.history.proofs.Agree.{agreement}
 use Rattle.stepper.specs.declared.Parsed.{Parsed}
 use Rattle.stepper.specs.declared.Parsed.the-variants.{Event, Nothing}
-use Rattle.stepper.specs.Steps.{eventFrom, eventNumbered, isEvent, eventCountFrom, eventCount, firstEvents, outcomeBytes, outcomesOf, wellSized, stepsAnswer, stepsBuffer}
+use Rattle.stepper.specs.Steps.{eventFrom, eventNumbered, isEvent, eventCountFrom, eventCount, firstEvents, outcomeBytes, outcomesOf, wellSized}
+use Rattle.stepper.specs.Steps.{stepsAnswer, stepsBuffer}
 
 -- ---- an event from four numbers
 
@@ -84,7 +85,8 @@ module _ (s : List ℤ) (end i : ℕ) (count : eventCountFrom (end - i) i s ≡ 
       let n : end - i ≡ suc (end - suc i) = omega arith in
       ap (λ (left : ℕ). eventCountFrom left i s) n ∙ rw (← is)
 
-  pub next-count : {t : Parsed} {x : event.Event} → t ≡ eventNumbered s i → t ≡ Event x → i < end → eventCountFrom (end - (i + 1)) (i + 1) s ≡ eventCountFrom end 0 s
+  pub next-count : {t : Parsed} {x : event.Event} → t ≡ eventNumbered s i → t ≡ Event x → i < end
+      → eventCountFrom (end - (i + 1)) (i + 1) s ≡ eventCountFrom end 0 s
   next-count is a below = rw (add-one i) (sym (one-more is below ∙ rw a) ∙ count)
 
   pub none-count : {t : Parsed} → t ≡ eventNumbered s i → t ≡ Nothing → i < end → i ≡ eventCountFrom end 0 s
@@ -113,7 +115,8 @@ module _ (s : List ℤ) (i : ℕ) {t : Parsed} {x : event.Event} (is : t ≡ eve
         → d′ ≡ sets d (7 * i) (outcomeBytes (o .answer) (o .shown)) → d′ ≡ sets d0 0 (outcomesOf (i + 1) s)
     next-held d0 d long held e = rw (next-outcomes, sets-append, ← held, long, zero-add) e
 
-pub held-is : (s : List ℤ) (d0 d : List ℕ) (end i : ℕ) → i ≡ eventCountFrom end 0 s → d ≡ sets d0 0 (outcomesOf i s) → d ≡ sets d0 0 (outcomesOf (eventCountFrom end 0 s) s)
+pub held-is : (s : List ℤ) (d0 d : List ℕ) (end i : ℕ) → i ≡ eventCountFrom end 0 s → d ≡ sets d0 0 (outcomesOf i s)
+    → d ≡ sets d0 0 (outcomesOf (eventCountFrom end 0 s) s)
 held-is s d0 d end i n h = rw (← n) h
 
 pub start-keeper : (s : List ℤ) {k : Keeper} → k ≡ Off → k ≡ run (firstEvents 0 s)

@@ -9,7 +9,8 @@ use Rattle.part.specs.declared.ChannelId.the-variants.{Local, Remote1, Remote2}
 use Rattle.part.specs.declared.FanId.{FanId}
 use Rattle.part.specs.declared.FanId.the-variants.{One, Two}
 use Rattle.event.specs.declared.Kind.the-variants as kind
-use Rattle.rules.specs.Registers.{config1, config2, test, speedAt, offsetAt, tachLimitAt, highLimitAt, lowLimitAt, thermLimitAt, characteristicsAt, speeds, filter, controlAt, device, company, behaviour, maskAt, resetAt}
+use Rattle.rules.specs.Registers.{config1, config2, test, speedAt, offsetAt, tachLimitAt, highLimitAt, lowLimitAt, thermLimitAt, characteristicsAt, speeds}
+use Rattle.rules.specs.Registers.{filter, controlAt, device, company, behaviour, maskAt, resetAt}
 use Rattle.input.specs.declared.Input.{Input}
 use Rattle.input.specs.Inputs.{isA, byteIn, isCount, isWrite, isRestart}
 use Rattle.stored.specs.declared.ChannelRegisters.{ChannelRegisters}

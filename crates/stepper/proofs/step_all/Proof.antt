@@ -6,7 +6,8 @@ use lib.ListN.{length}
 use lib.Seq.{sets}
 use Rattle.history.specs.Agreement.{run}
 use Rattle.stepper.specs.Steps.{eventCountFrom, firstEvents, outcomesOf}
-use Rattle.stepper.proofs.Laws.{room-fits, same-size, next-count, next-keeper, next-long, next-held, none-count, end-count, held-is, start-keeper, start-held, start-long, start-count}
+use Rattle.stepper.proofs.Laws.{room-fits, same-size, next-count, next-keeper, next-long, next-held, none-count, end-count, held-is, start-keeper}
+use Rattle.stepper.proofs.Laws.{start-held, start-long, start-count}
 use Rattle.stepper.proofs.step_all.Statement.{statement}
 use Rattle.stepper.proofs.step_all.Tie as tie
 
