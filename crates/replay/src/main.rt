@@ -1,5 +1,6 @@
 // Replays the trace on standard input, and prints the report on standard output.
 // The buffer holds the report of the longest text, so that the program never falls silent.
+// A failed read or write is told on standard error; after a failed read there is no report.
 use buffer::Put;
 ghost use mathlib.Core.Path.{_≡_};
 ghost use Prim.Native.Nat.{_≤_};
@@ -36,10 +37,29 @@ fn printed(text: &[u8], report: &mut [u8]) -> usize
     }
 }
 
+// The input is read until a read brings nothing more: it ended, or the buffer is full.
 fn main() {
     let mut input = input_buffer();
-    let n = io::read_full(libc::STDIN_FILENO, &mut input);
+    let mut n: usize = 0;
+    let mut more: usize = 1;
+    while 0 < more {
+        let got = libc::read(libc::STDIN_FILENO, &mut input[n..]);
+        if got < 0 {
+            io::write_all(
+                libc::STDERR_FILENO,
+                b"replay: standard input could not be read\n",
+            );
+            return;
+        }
+        more = io::count(got, &input[n..]);
+        n += more;
+    }
     let mut output = report_buffer();
     let m = printed(&input[..n], &mut output);
-    io::write_all(libc::STDOUT_FILENO, &output[..m]);
+    if !io::write_all(libc::STDOUT_FILENO, &output[..m]) {
+        io::write_all(
+            libc::STDERR_FILENO,
+            b"replay: the report could not be written\n",
+        );
+    }
 }
