@@ -15,7 +15,7 @@ extern "C" {
 #define SNEZHULKA_WRONG_SIZE SIZE_MAX
 
 /* Replays a trace text of at most 65,536 bytes into `report` and gives the length of the report.
-   17 bytes for each byte of text, and 26 more, are always enough. */
+   3 bytes for each byte of text, and 26 more, are always enough. */
 size_t snezhulka_replay(const uint8_t *text, size_t text_len, uint8_t *report, size_t report_len);
 
 /* Steps a keeper that never had power through a list of events, four numbers each: the kind from 0 (power) to 8 (period) in

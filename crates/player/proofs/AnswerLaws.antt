@@ -75,7 +75,7 @@ module _ (text d : List ℕ) where
     pub measured-room : {n : ℕ} → n ≡ length (playedOf text) → n ≤ length d → length (playedOf text) ≤ length d
     measured-room e l = rw (← e) l
 
-    pub sure-room : 17 * length text + 26 ≤ length d → length (playedOf text) ≤ length d
+    pub sure-room : 3 * length text + 26 ≤ length d → length (playedOf text) ≤ length d
     sure-room l = omega (arith, bounded text h, ap length (report-is text))
 
     module _ (room : length (playedOf text) ≤ length d) where

@@ -97,5 +97,5 @@ module _ (s : List ℕ) (at : ℕ) {r : Reading} {e : Event} {next : ℕ} (q : r
   pub next-line : {line : ℕ} → line ≤ at + 1 → line + 4 ≤ next + 1
   next-line h = omega (arith, onward s at q x)
 
-  pub next-length : {n w : ℕ} → n ≤ 17 * at → w ≤ 68 → n + w ≤ 17 * next
+  pub next-length : {n w : ℕ} → n ≤ 3 * at → w ≤ 68 → n + w ≤ 3 * next
   next-length h h′ = omega (arith, onward s at q x)

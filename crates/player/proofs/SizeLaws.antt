@@ -65,7 +65,7 @@ entry-small e h =
 -- ---- the report
 
 module _ (s : List ℕ) (short : length s ≤ 65536) where
-  from-small : (k at line : ℕ) (h : History) → at ≤ length s → line ≤ at + 1 → length (reportFrom k s at line h) ≤ 17 * (length s - at) + 26
+  from-small : (k at line : ℕ) (h : History) → at ≤ length s → line ≤ at + 1 → length (reportFrom k s at line h) ≤ 3 * (length s - at) + 26
   unfolding reportFrom
   from-small zero at line h within l = omega arith
   from-small (suc k) at line h within l =
@@ -74,8 +74,8 @@ module _ (s : List ℕ) (short : length s ≤ 65536) where
       (λ f. rw f (go (eventAt s at) refl (λ e next n w. from-small k next (line + 4) (e ∷ h) w n)))
     where
       go : (r : Reading) → r ≡ eventAt s at
-          → ((e : Event) (next : ℕ) → line + 4 ≤ next + 1 → next ≤ length s → length (reportFrom k s next (line + 4) (e ∷ h)) ≤ 17 * (length s - next) + 26)
-          → length (lines r line h (λ next x. reportFrom k s next (line + 4) x)) ≤ 17 * (length s - at) + 26
+          → ((e : Event) (next : ℕ) → line + 4 ≤ next + 1 → next ≤ length s → length (reportFrom k s next (line + 4) (e ∷ h)) ≤ 3 * (length s - next) + 26)
+          → length (lines r line h (λ next x. reportFrom k s next (line + 4) x)) ≤ 3 * (length s - at) + 26
       go (reading.Event e next) q ih =
           let o = onward s at q refl in
           let rest = ih e next (omega (arith, o)) (o .1) in

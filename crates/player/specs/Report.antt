@@ -30,9 +30,9 @@ reportFrom (suc k) text at line h =
 unfoldable pub reportOf : List ℕ → List ℕ
 reportOf text = reportFrom (length text) text 0 1 []
 
--- no report is longer than 17 bytes for each byte of text, and an ending of 26
+-- no report is longer than 3 bytes for each byte of text, and an ending of 26
 abbrev pub Bounded : Type 0
-Bounded = (text : List ℕ) → length text ≤ 65536 → length (reportOf text) ≤ 17 * length text + 26
+Bounded = (text : List ℕ) → length text ≤ 65536 → length (reportOf text) ≤ 3 * length text + 26
 
 -- a text of more than 65,536 bytes is refused with 11 before any line is judged; then a buffer too short for the report
 unfoldable pub replayAnswer : (text buffer : List ℕ) → Put

@@ -81,7 +81,7 @@ pub fn replay(text: &[u8], report: &mut [u8]) -> Put
     if 65536 < text.len() {
         return Put::Refused(Refusal::WrongSize);
     }
-    if 17 * text.len() + 26 <= report.len() {
+    if 3 * text.len() + 26 <= report.len() {
         return Put::End(write_report(text, report));
     }
     if report.len() < report_len(text) {

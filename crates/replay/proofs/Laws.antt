@@ -36,7 +36,7 @@ counted t d {d′} {e} fits h q =
     let w : e ≤ length d′ = omega arith in
     (w, sym (length-take-le e d′ w))
 
-module _ (text d : List ℕ) (room : 1114138 ≤ length d) where
+module _ (text d : List ℕ) (room : 196634 ≤ length d) where
   -- ---- a text that is short enough
 
   module _ (short : ltb 65536 (length text) ≡ false) where

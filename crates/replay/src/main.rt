@@ -16,16 +16,16 @@ fn input_buffer() -> [u8; 65537]
     [0; 65537]
 }
 
-// 17 bytes for each byte of the longest text, and an ending of 26.
-fn report_buffer() -> [u8; 1114138]
-    ensures { λ r. ⌜ 1114138 ≡ length r ⌝ }
+// 3 bytes for each byte of the longest text, and an ending of 26.
+fn report_buffer() -> [u8; 196634]
+    ensures { λ r. ⌜ 196634 ≡ length r ⌝ }
 {
-    [0; 1114138]
+    [0; 196634]
 }
 
 // What is to be printed, in the buffer, and its length: it always fits.
 fn printed(text: &[u8], report: &mut [u8]) -> usize
-    requires { ⌜ 1114138 ≤ length (now report) ⌝ }
+    requires { ⌜ 196634 ≤ length (now report) ⌝ }
     ensures { λ r. ⌜ r ≡ length (printedOf (now (text .entry))) ⌝ }
     ensures { λ r. ⌜ Counts r (now (report .exit)) ⌝ }
     ensures { λ _. ⌜ now (report .exit) ≡ sets (now (report .entry)) 0 (printedOf (now (text .entry))) ⌝ }

@@ -81,7 +81,7 @@ pub fn replay(text: &[u8], report: &mut [u8]) -> Result<usize, WrongSize> {
 /// The whole report of `text`, or `answer=11` and a newline where the text is too long.
 pub fn report_of(text: &[u8]) -> Vec<u8> {
     // No report is longer than this.
-    let mut report = vec![0; 17 * text.len().min(LONGEST_TEXT) + 26];
+    let mut report = vec![0; 3 * text.len().min(LONGEST_TEXT) + 26];
     match replay(text, &mut report) {
         Ok(end) => report.truncate(end),
         Err(WrongSize) => report = b"answer=11\n".to_vec(),

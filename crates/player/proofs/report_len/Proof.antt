@@ -10,7 +10,7 @@ use Rattle.player.proofs.report_len.Tie as tie
 
 abbrev Inv-loop : tie.InvT-loop
 Inv-loop text k₀ at₀ line₀ n₀ k at line n =
-    (at ≤ length text) × (line ≤ at + 1) × (n ≤ 17 * at) × (length (playedOf text) ≡ n + length (playedFrom (length text - at) text at line k))
+    (at ≤ length text) × (line ≤ at + 1) × (n ≤ 3 * at) × (length (playedOf text) ≡ n + length (playedFrom (length text - at) text at line k))
 
 abbrev μ-loop : tie.MeasureT-loop
 μ-loop text k₀ at₀ line₀ n₀ k at line n = length text - at

@@ -68,7 +68,7 @@ fn median(mut times: Vec<f64>) -> f64 {
 
 /// The whole replay, text to report: both programs on one text, in nanoseconds.
 fn replays(text: &[u8]) -> (f64, f64) {
-    let mut report = vec![0; 17 * text.len() + 26];
+    let mut report = vec![0; 3 * text.len() + 26];
     let mut ours = || {
         black_box(snezhulka::replay(black_box(text), &mut report)).expect("the buffer suffices");
     };
