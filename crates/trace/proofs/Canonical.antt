@@ -73,7 +73,7 @@ made-text k n = let m = every-kind Made mades k n in rw (m .0, m .1)
 
 module _ (s : List ℕ) where
   -- a text stands between two places
-  abbrev Stands : (at next : ℕ) → List ℕ → Type 0
+  abbrev pub Stands : (at next : ℕ) → List ℕ → Type 0
   Stands at next t = (at ≤ next) × (take (next - at) (drop at s) ≡ t)
 
   joined : (at mid next : ℕ) (a b : List ℕ) → Stands at mid a → Stands mid next b → Stands at next (a ++ b)
@@ -84,15 +84,15 @@ module _ (s : List ℕ) where
         rw (n, take-add (mid - at) (next - mid) (drop at s), drop-drop (mid - at) at s, m, p .1, q .1),
       )
 
-  abbrev FieldStands : (name : List ℕ) → ℕ → Field → Type 0
+  abbrev pub FieldStands : (name : List ℕ) → ℕ → Field → Type 0
   FieldStands name at (field.Number z next) = Stands at next (numberText name z)
   FieldStands name at field.Wrong = Unit {0}
 
-  abbrev NamedStands : ℕ → Named → Type 0
+  abbrev pub NamedStands : ℕ → Named → Type 0
   NamedStands at (named.Kind k next) = Stands at next (ended (kindText k))
   NamedStands at named.Wrong = Unit {0}
 
-  number-stands : (name : List ℕ) (at : ℕ) → FieldStands name at (numberLine name s at)
+  pub number-stands : (name : List ℕ) (at : ℕ) → FieldStands name at (numberLine name s at)
   unfolding numberLine numberText
   number-stands name at =
       either givenBy field.Wrong (numberNamed name) s at (FieldStands name at) tt (λ next l h h′ e. given next l (numberNamed name l) h e refl)
@@ -101,7 +101,7 @@ module _ (s : List ℕ) where
       given next l (Number z) h e q = (omega arith, e ∙ ap ended (given-only name l q))
       given next l Malformed h e q = tt
 
-  kind-stands : (at : ℕ) → NamedStands at (kindLine s at)
+  pub kind-stands : (at : ℕ) → NamedStands at (kindLine s at)
   unfolding kindLine
   kind-stands at = either namedBy named.Wrong kindNamed s at (NamedStands at) tt (λ next l h h′ e. given next l (kindNamed l) h e refl)
     where

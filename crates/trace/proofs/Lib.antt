@@ -1,4 +1,5 @@
 pub mod Lines
+pub mod Places
 pub mod Words
 pub mod Numbers
 pub mod Events

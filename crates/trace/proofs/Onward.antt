@@ -1,22 +1,20 @@
 -- Where an event that was read ends, and where a wrong line of it starts. Assumes nothing.
 use Prim.Native.Nat.{ℕ, _+_, _-_, _≤_, _<_}
-use mathlib.Core.Path.{_≡_, refl, sym, ap, _∙_}
+use mathlib.Core.Path.{_≡_, sym, ap, _∙_}
 use mathlib.Core.List.{List}
-use mathlib.Core.Bool.{Bool, true, false}
 use native.Mathlib.Omega.{arith}
-use borrow.Author.Needs.{needs}
-use borrow.Author.Tests.{ltb-true, ltb-false, leb-true}
-use lib.Dec.{ltb, leb}
+use borrow.Author.Tests.{ltb-true, ltb-false}
+use lib.Dec.{ltb}
 use lib.IntN.{ℤ, pos, negsuc}
 use lib.ListN.{length, take, drop, length-append, length-take}
+use Rattle.integer.proofs.BoolLaws.{by-cases}
 use Rattle.decimal.specs.declared.Decimal.{Decimal}
 use Rattle.decimal.specs.declared.Decimal.the-variants.{Number, Malformed}
 use Rattle.decimal.specs.Decimal.{decimalOf, textOf}
 use Rattle.decimal.proofs.Laws.{small-length, decimal-length}
 use Rattle.event.specs.declared.Event.{Event}
 use Rattle.event.specs.declared.Kind.{Kind}
-use Rattle.event.specs.Kinds.{kindOf, numbersOf, kinds, kindAt}
-use Rattle.event.proofs.Laws.{Each, every-kind}
+use Rattle.event.specs.Kinds.{kindOf, numbersOf}
 use Rattle.trace.specs.declared.Word.{Word}
 use Rattle.trace.specs.declared.Word.the-variants.{Known, Unknown}
 use Rattle.trace.specs.declared.Named.{Named}
@@ -25,10 +23,11 @@ use Rattle.trace.specs.declared.Field.{Field}
 use Rattle.trace.specs.declared.Field.the-variants as field
 use Rattle.trace.specs.declared.Reading.{Reading}
 use Rattle.trace.specs.declared.Reading.the-variants as reading
-use Rattle.trace.specs.Words.{kindText, whoName, argName, valName, kindNamed, namedBy, kindLine}
+use Rattle.trace.specs.Words.{whoName, argName, valName, kindNamed, namedBy, kindLine}
 use Rattle.trace.specs.Trace.{numberNamed, givenBy, numberLine, afterVal, afterArg, afterWho, afterKind, eventAt, numberText, numbersText, eventText}
 use Rattle.trace.proofs.Lines.{either}
 use Rattle.trace.proofs.Canonical.{canonical}
+use Rattle.trace.proofs.Words.{kind-long}
 
 module _ (s : List ℕ) where
   -- ---- the line after one that was read starts further on, within the text
@@ -89,25 +88,10 @@ module _ (s : List ℕ) where
 
 -- ---- an event's text
 
--- kind= and a word: the shortest is pin
-Long : Kind → Type 0
-Long k = leb 8 (length (kindText k)) ≡ true
-
-longs : Each (λ p. Long (kindAt p)) (length kinds)
-unfolding Long
-longs = search needs
-
-kind-long : (k : Kind) → 8 ≤ length (kindText k)
-unfolding Long
-kind-long k = leb-true 8 (length (kindText k)) (every-kind Long longs k)
-
 -- a number has a digit
 decimal-long : (n : ℕ) → 1 ≤ length (decimalOf n)
-decimal-long n = go (ltb n 10) refl
-  where
-    go : (t : Bool) → ltb n 10 ≡ t → 1 ≤ length (decimalOf n)
-    go true h = omega (arith, small-length n (ltb-true n 10 h))
-    go false h = omega (arith, decimal-length n (ltb-false n 10 h))
+decimal-long n =
+    by-cases (ltb n 10) (λ y. omega (arith, small-length n (ltb-true n 10 y))) (λ f. omega (arith, decimal-length n (ltb-false n 10 f)))
 
 text-long : (z : ℤ) → 1 ≤ length (textOf z)
 unfolding textOf

@@ -69,12 +69,12 @@ value-back name z f = rw (take-append-seam, same-self, drop-append-seam) (decima
 -- ---- an event
 
 module _ (text : List ℕ) (at : ℕ) (after : List ℕ) where
-  kind-line : (k : Kind) → drop at text ≡ ended (kindText k) ++ after → kindLine text at ≡ named.Kind k (at + length (ended (kindText k)))
+  pub kind-line : (k : Kind) → drop at text ≡ ended (kindText k) ++ after → kindLine text at ≡ named.Kind k (at + length (ended (kindText k)))
   unfolding kindLine
   kind-line k stands =
       line-back text at (kindText k) after stands namedBy named.Wrong kindNamed (kind-back k .0) ∙ rw (kind-back k .1)
 
-  number-line : (name : List ℕ) (z : ℤ) → Clean name → SFits w32 z → drop at text ≡ ended (name ++ textOf z) ++ after
+  pub number-line : (name : List ℕ) (z : ℤ) → Clean name → SFits w32 z → drop at text ≡ ended (name ++ textOf z) ++ after
       → numberLine name text at ≡ field.Number z (at + length (ended (name ++ textOf z)))
   unfolding numberLine
   number-line name z c f stands =

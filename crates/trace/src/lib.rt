@@ -4,15 +4,19 @@ use decimal::Decimal;
 use event::Event;
 use event::Kind;
 use event::Numbers;
-use line::line_at;
 use line::line_end;
 use line::same;
 ghost use mathlib.Core.Path.{_≡_};
-ghost use Prim.Native.Nat.{_<_};
+ghost use mathlib.Core.List.{List, [], _++_};
+ghost use mathlib.Core.Bool.{_&&_};
+ghost use Prim.Native.Nat.{ℕ, _+_, _*_, _<_};
+ghost use lib.Dec.{leb, eqb};
+ghost use lib.ListN.{length, getD, take, drop};
+ghost use Rattle.event.specs.declared.Kind.{Kind};
 ghost use Rattle.event.specs.Kinds.{kindAt};
-ghost use Rattle.line.specs.Line.{sameBytes};
-ghost use Rattle.trace.specs.Words.{kindText, kindTable, kindNamed, kindLine};
-ghost use Rattle.trace.specs.Trace.{numberNamed, numberLine, eventAt};
+ghost use Rattle.line.specs.Line.{sameBytes, firstLine};
+ghost use Rattle.trace.specs.Words.{kindText, kindTable, kindLine};
+ghost use Rattle.trace.specs.Trace.{numberLine, eventAt, ended};
 
 pub enum Word {
     Known(Kind),
@@ -45,31 +49,37 @@ pub fn kind_table() -> [u8; 108]
     *b"kind=power\n\0kind=write\n\0kind=point\n\0kind=read\n\0\0kind=sample\nkind=tach\n\0\0kind=pin\n\0\0\0kind=clock\n\0kind=period\n"
 }
 
-// Whether a line without its newline names the kind at a place of the table.
-fn names(l: &[u8], place: u16) -> bool
-    requires { ⌜ place < 9 ⌝ }
-    ensures { λ r. ⌜ r ≡ sameBytes (now (l .entry)) (kindText (kindAt place)) ⌝ }
+// Whether the text has n bytes from an index on.
+fn reaches(text: &[u8], at: usize, n: usize) -> bool
+    ensures { λ r. ⌜ r ≡ leb (at + n) (length (now (text .entry))) ⌝ }
 {
-    let table = kind_table();
-    let at = 12 * place as usize;
-    let n = l.len();
-    if 11 < n {
-        return false;
+    if at <= text.len() {
+        n <= text.len() - at
+    } else {
+        false
     }
-    // only behind a line as long stands a newline
-    if table[at + n] != 10 {
-        return false;
-    }
-    same(l, line_at(&table, at))
 }
 
-// The kind that a line without its newline names.
-fn kind_named(l: &[u8]) -> Word
-    ensures { λ r. ⌜ r ≡ kindNamed (now (l .entry)) ⌝ }
+// Whether these bytes stand in the text at an index. No bytes stand everywhere.
+fn stands(bytes: &[u8], text: &[u8], at: usize) -> bool
+    ensures { λ r. ⌜ r ≡ sameBytes (take (length (now (bytes .entry))) (drop at (now (text .entry)))) (now (bytes .entry)) ⌝ }
 {
+    let n = bytes.len();
+    if reaches(text, at, n) {
+        same(&text[at..at + n], bytes)
+    } else {
+        n == 0
+    }
+}
+
+// The kind whose line has this byte behind its first eight. No two lines have the same byte there.
+fn kind_by(b: u8) -> Word
+    ensures { λ r. ⌜ ((p : ℕ) → p < 9 → getD kindTable (12 * p + 8) 0 ≡ b → r ≡ Word.Known (kindAt p)) ⌝ }
+{
+    let table = kind_table();
     let mut place: u16 = 0;
     while place < event::KIND_COUNT {
-        if names(l, place) {
+        if table[12 * place as usize + 8] == b {
             return Word::Known(event::kind_at(place));
         }
         place += 1;
@@ -77,48 +87,72 @@ fn kind_named(l: &[u8]) -> Word
     Word::Unknown
 }
 
+// The only kind whose line can stand at an index. The shortest line is kind=pin and its newline.
+fn kind_guess(text: &[u8], at: usize) -> Word
+    ensures { λ r. ⌜ ((k : Kind) (after : List ℕ) → drop at (now (text .entry)) ≡ ended (kindText k) ++ after → r ≡ Word.Known k) ⌝ }
+{
+    if reaches(text, at, 9) {
+        kind_by(text[at + 8])
+    } else {
+        Word::Unknown
+    }
+}
+
 // The line at `at` as a kind, ended by a newline.
 fn kind_line(text: &[u8], at: usize) -> Named
     ensures { λ r. ⌜ r ≡ kindLine (now (text .entry)) at ⌝ }
 {
-    let e = line_end(text, at);
-    if text.len() <= e {
+    let word = kind_guess(text, at);
+    let Word::Known(k) = word else {
         return Named::Wrong;
-    }
-    let w = kind_named(&text[at..e]);
-    match w {
-        Word::Known(k) => Named::Kind(k, e + 1),
-        Word::Unknown => Named::Wrong,
-    }
-}
-
-// The decimal behind a name on a line without its newline.
-fn number_named(name: &[u8], l: &[u8]) -> Decimal
-    ensures { λ r. ⌜ r ≡ numberNamed (now (name .entry)) (now (l .entry)) ⌝ }
-{
-    let n = name.len();
-    if l.len() < n {
-        return Decimal::Malformed;
-    }
-    if same(&l[0..n], name) {
-        decimal::read_decimal(&l[n..])
+    };
+    let table = kind_table();
+    let start = 12 * event::place_of(k) as usize;
+    // with its newline, which stands behind its first eight bytes
+    let end = line_end(&table, start + 8) + 1;
+    if stands(&table[start..end], text, at) {
+        Named::Kind(k, at + (end - start))
     } else {
-        Decimal::Malformed
+        Named::Wrong
     }
 }
 
-// The line at `at` as a name and a decimal, ended by a newline.
-fn number_line(name: &[u8], text: &[u8], at: usize) -> Field
-    ensures { λ r. ⌜ r ≡ numberLine (now (name .entry)) (now (text .entry)) at ⌝ }
+// Whether these two bytes are a digit and a newline.
+fn is_digit_line(b: u8, after: u8) -> bool
+    ensures { λ r. ⌜ r ≡ (leb 48 b && (leb b 57 && eqb after 10)) ⌝ }
 {
+    (b'0' <= b) & ((b <= b'9') & (after == b'\n'))
+}
+
+// The line at `at` as a decimal, ended by a newline. Most have one digit.
+fn decimal_line(text: &[u8], at: usize) -> Field
+    ensures { λ r. ⌜ r ≡ numberLine [] (now (text .entry)) at ⌝ }
+{
+    if reaches(text, at, 2) {
+        if is_digit_line(text[at], text[at + 1]) {
+            return Field::Number((text[at] - b'0') as i32, at + 2);
+        }
+    }
     let e = line_end(text, at);
     if text.len() <= e {
         return Field::Wrong;
     }
-    let d = number_named(name, &text[at..e]);
+    let d = decimal::read_decimal(&text[at..e]);
     match d {
         Decimal::Number(v) => Field::Number(v, e + 1),
         Decimal::Malformed => Field::Wrong,
+    }
+}
+
+// The line at `at` as a name, which has no newline, and a decimal, ended by a newline.
+fn number_line(name: &[u8; 4], text: &[u8], at: usize) -> Field
+    requires { ⌜ firstLine (now name) ≡ now name ⌝ }
+    ensures { λ r. ⌜ r ≡ numberLine (now (name .entry)) (now (text .entry)) at ⌝ }
+{
+    if stands(name, text, at) {
+        decimal_line(text, at + 4)
+    } else {
+        Field::Wrong
     }
 }
 

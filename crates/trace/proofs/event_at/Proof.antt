@@ -1,4 +1,6 @@
+use mathlib.Core.Path.{refl}
 use borrow.Author.Needs.{needs}
+use Rattle.line.specs.Line.{firstLine}
 use Rattle.trace.proofs.Events.{wrong-kind, wrong-who, wrong-arg, wrong-val, four-lines}
 use Rattle.trace.proofs.event_at.Statement.{statement}
 use Rattle.trace.proofs.event_at.Tie as tie
@@ -15,11 +17,9 @@ enum-told c = search needs
 returns : tie.Need-returns
 returns c = search wrong-kind
 
-slice-aggregate-number-line : tie.Need-slice-aggregate-number-line
-slice-aggregate-number-line c = search needs
-
 number-line-requires : tie.Need-number-line-requires
-number-line-requires c κs = search needs
+unfolding firstLine
+number-line-requires c κs = refl
 
 enum-known-field1 : tie.Need-enum-known-field1
 enum-known-field1 c = search needs
@@ -30,11 +30,9 @@ enum-told-2 c = search needs
 returns-2 : tie.Need-returns-2
 returns-2 c = search wrong-who
 
-slice-aggregate-number-line-2 : tie.Need-slice-aggregate-number-line-2
-slice-aggregate-number-line-2 c = search needs
-
 number-line-requires-2 : tie.Need-number-line-requires-2
-number-line-requires-2 c κs = search needs
+unfolding firstLine
+number-line-requires-2 c κs = refl
 
 enum-known-field2 : tie.Need-enum-known-field2
 enum-known-field2 c = search needs
@@ -45,11 +43,9 @@ enum-told-3 c = search needs
 returns-3 : tie.Need-returns-3
 returns-3 c = search wrong-arg
 
-slice-aggregate-number-line-3 : tie.Need-slice-aggregate-number-line-3
-slice-aggregate-number-line-3 c = search needs
-
 number-line-requires-3 : tie.Need-number-line-requires-3
-number-line-requires-3 c κs = search needs
+unfolding firstLine
+number-line-requires-3 c κs = refl
 
 enum-known-field3 : tie.Need-enum-known-field3
 enum-known-field3 c = search needs
@@ -74,17 +70,14 @@ event-at-spec =
     enum-known-named
     enum-told
     returns
-    slice-aggregate-number-line
     number-line-requires
     enum-known-field1
     enum-told-2
     returns-2
-    slice-aggregate-number-line-2
     number-line-requires-2
     enum-known-field2
     enum-told-3
     returns-3
-    slice-aggregate-number-line-3
     number-line-requires-3
     enum-known-field3
     enum-told-4
