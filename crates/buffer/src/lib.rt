@@ -3,7 +3,7 @@
 use event::Refusal;
 use integer::Split;
 ghost use mathlib.Core.Path.{_≡_};
-ghost use Prim.Native.Nat.{_+_};
+ghost use Prim.Native.Nat.{_+_, _≤_};
 ghost use mathlib.Core.List.{_∷_};
 ghost use lib.Dec.{leb};
 ghost use lib.ListN.{length, set};
@@ -56,15 +56,32 @@ pub fn put_byte(b: u8, buf: &mut [u8], at: usize, skip: usize)
     }
 }
 
-pub fn put_bytes(text: &[u8], buf: &mut [u8], at: usize)
+// A text that has room.
+fn copy(text: &[u8], buf: &mut [u8], at: usize)
+    requires { ⌜ at + length (now text) ≤ length (now buf) ⌝ }
     ensures { λ _. ⌜ now (buf .exit) ≡ sets (now (buf .entry)) at (now (text .entry)) ⌝ }
 {
     let mut i = 0;
     while i < text.len() {
-        let b = text[i];
-        put_byte(b, buf, at, i);
+        buf[at + i] = text[i];
         i += 1;
     }
+}
+
+// So much of a text as has room.
+pub fn put_bytes(text: &[u8], buf: &mut [u8], at: usize)
+    ensures { λ _. ⌜ now (buf .exit) ≡ sets (now (buf .entry)) at (now (text .entry)) ⌝ }
+{
+    let len = buf.len();
+    if len < at {
+        return;
+    }
+    let room = len - at;
+    if room < text.len() {
+        copy(&text[0..room], buf, at);
+        return;
+    }
+    copy(text, buf, at);
 }
 
 // Puts n's decimal, and answers how many digits it has.
@@ -73,11 +90,11 @@ pub fn put_decimal(n: u32, buf: &mut [u8], at: usize) -> usize
     ensures { λ _. ⌜ now (buf .exit) ≡ sets (now (buf .entry)) at (decimalOf n) ⌝ }
 {
     if n < 10 {
-        put_byte(48 + n as u8, buf, at, 0);
+        put_byte(b'0' + n as u8, buf, at, 0);
         return 1;
     }
     let k = put_decimal(n / 10, buf, at);
-    put_byte(48 + (n % 10) as u8, buf, at, k);
+    put_byte(b'0' + (n % 10) as u8, buf, at, k);
     k + 1
 }
 
@@ -89,7 +106,7 @@ fn put_negative(n: u32, buf: &mut [u8], at: usize) -> usize
     if buf.len() <= at {
         return 1 + put_decimal(n, buf, at);
     }
-    buf[at] = 45;
+    buf[at] = b'-';
     1 + put_decimal(n, buf, at + 1)
 }
 
@@ -111,7 +128,7 @@ pub fn put_whole(text: &[u8], buf: &mut [u8], at: usize) -> Put
 {
     let n = text.len();
     if fits(at, n, buf.len()) {
-        put_bytes(text, buf, at);
+        copy(text, buf, at);
         Put::End(at + n)
     } else {
         Put::Refused(Refusal::WrongSize)

@@ -29,7 +29,7 @@ use Rattle.chip.specs.Chips.{chipAfter}
 use Rattle.chip.specs.declared.Chip.{Chip}
 use Rattle.output.specs.Outputs.{registerAt, shownOf}
 use Rattle.integer.specs.Bits.{bitOf}
-use Rattle.buffer.proofs.Laws.{sets-append}
+use Rattle.buffer.proofs.TextLaws.{sets-append}
 use Rattle.keeper.specs.declared.Keeper.{Keeper}
 use Rattle.keeper.specs.declared.Keeper.the-variants.{Off, On}
 use Rattle.keeper.specs.declared.Outcome.{Outcome}

@@ -9,7 +9,8 @@ use lib.Seq.{sets, sets-eq, take-at, length-take-le, length-sets}
 use Rattle.event.specs.declared.Event.{Event}
 use Rattle.buffer.specs.Put.{putOf, heldOf, endOf}
 use Rattle.buffer.specs.declared.Put.{Put}
-use Rattle.buffer.proofs.Laws.{sets-append, end-there, held-there}
+use Rattle.buffer.proofs.TextLaws.{sets-append}
+use Rattle.buffer.proofs.WholeLaws.{end-there, held-there}
 use Rattle.trace.specs.Trace.{eventAt}
 use Rattle.trace.specs.declared.Reading.{Reading}
 use Rattle.trace.specs.declared.Reading.the-variants as reading
@@ -45,7 +46,9 @@ module _ (full d0 d rest : List ℕ) (out : ℕ) (inv : full ≡ take out d ++ r
     grow-room = omega (arith, left, ap length is ∙ length-append t more)
 
     grow-inv : full ≡ take (out + length t) (sets d out t) ++ more
-    grow-inv = inv ∙ ap (λ (l : List ℕ). take out d ++ l) is ∙ sym (append-assoc (take out d) t more) ∙ ap (λ (l : List ℕ). l ++ more) (sym (put-take t d out grow-room))
+    grow-inv =
+        inv ∙ ap (λ (l : List ℕ). take out d ++ l) is ∙ sym (append-assoc (take out d) t more)
+        ∙ ap (λ (l : List ℕ). l ++ more) (sym (put-take t d out grow-room))
 
     grow-held : sets d out t ≡ sets d0 0 (take (out + length t) (sets d out t))
     grow-held =
@@ -54,7 +57,8 @@ module _ (full d0 d rest : List ℕ) (out : ℕ) (inv : full ≡ take out d ++ r
         ∙ ap (λ (k : ℕ). sets d k t) n)
 
 -- the same for the report
-module _ (s d0 d : List ℕ) (at out line : ℕ) (c : Keeper) (inv : playedOf s ≡ take out d ++ playedFrom (length s - at) s at line c) (held : d ≡ sets d0 0 (take out d))
+module _ (s d0 d : List ℕ) (at out line : ℕ) (c : Keeper)
+    (inv : playedOf s ≡ take out d ++ playedFrom (length s - at) s at line c) (held : d ≡ sets d0 0 (take out d))
     (same : length d ≡ length d0) (room : length (playedOf s) ≤ length d0) (within : out ≤ length d) where
   write-end : length s ≤ at → (out ≡ length (playedOf s)) × (d ≡ sets d0 0 (playedOf s))
   write-end h = grow-end (playedOf s) d0 d (playedFrom (length s - at) s at line c) out inv held same room within (run-end (length s - at) s at line c h)
@@ -91,7 +95,9 @@ module _ (s d0 d : List ℕ) (at out line : ℕ) (c : Keeper) (inv : playedOf s 
       is-event = run-event s at line c h q x ho
 
       event-room : out + length (entryBy o) ≤ length d
-      event-room = grow-room (playedOf s) d0 d (playedFrom (length s - at) s at line c) out inv held same room within (entryBy o) (playedFrom (length s - next) s next (line + 4) (o .keeper)) is-event
+      event-room =
+          grow-room (playedOf s) d0 d (playedFrom (length s - at) s at line c) out inv held same room within
+          (entryBy o) (playedFrom (length s - next) s next (line + 4) (o .keeper)) is-event
 
       module _ {d′ : List ℕ} (hd : d′ ≡ heldOf d out (entryBy o)) where
         there : d′ ≡ sets d out (entryBy o)
@@ -105,10 +111,16 @@ module _ (s d0 d : List ℕ) (at out line : ℕ) (c : Keeper) (inv : playedOf s 
           end = end-there d (entryBy o) out event-room out hp hn
 
           pub event-inv : playedOf s ≡ take out′ d′ ++ playedFrom (length s - next) s next (line + 4) (o .keeper)
-          event-inv = rw (end, there) (grow-inv (playedOf s) d0 d (playedFrom (length s - at) s at line c) out inv held same room within (entryBy o) (playedFrom (length s - next) s next (line + 4) (o .keeper)) is-event)
+          event-inv =
+              rw (end, there)
+              (grow-inv (playedOf s) d0 d (playedFrom (length s - at) s at line c) out inv held same room within
+              (entryBy o) (playedFrom (length s - next) s next (line + 4) (o .keeper)) is-event)
 
           pub event-held : d′ ≡ sets d0 0 (take out′ d′)
-          event-held = rw (end, there) (grow-held (playedOf s) d0 d (playedFrom (length s - at) s at line c) out inv held same room within (entryBy o) (playedFrom (length s - next) s next (line + 4) (o .keeper)) is-event)
+          event-held =
+              rw (end, there)
+              (grow-held (playedOf s) d0 d (playedFrom (length s - at) s at line c) out inv held same room within
+              (entryBy o) (playedFrom (length s - next) s next (line + 4) (o .keeper)) is-event)
 
           pub event-within : out′ ≤ length d′
           event-within = rw (end, there, length-sets) event-room

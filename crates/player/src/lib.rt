@@ -28,13 +28,13 @@ fn report_len(text: &[u8]) -> usize
                 let o = keeper::step(k, e);
                 let answer = o.answer;
                 let shown = o.shown;
-                n += measure::entry_len(answer, shown);
+                n += report::entry_len(answer, shown);
                 k = o.keeper;
                 at = next;
                 line += 4;
             }
             Reading::Wrong(i, _) => {
-                return n + measure::malformed_len(line + i as u32);
+                return n + report::malformed_len(line + i as u32);
             }
         }
     }

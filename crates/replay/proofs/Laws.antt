@@ -15,7 +15,7 @@ use Rattle.event.specs.declared.Refusal.the-variants.{WrongSize}
 use Rattle.buffer.specs.Put.{putOf, heldOf, putNumber, endOf}
 use Rattle.buffer.specs.declared.Put.{Put}
 use Rattle.buffer.specs.declared.Put.the-variants.{End, Refused}
-use Rattle.buffer.proofs.Laws.{end-there, held-there, never-refused}
+use Rattle.buffer.proofs.WholeLaws.{end-there, held-there, never-refused}
 use Rattle.report.specs.Report.{answerText}
 use Rattle.player.proofs.SizeLaws.{bounded}
 use Rattle.player.specs.Report.{reportOf, replayAnswer, replayBuffer, printedOf}

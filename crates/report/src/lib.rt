@@ -1,55 +1,165 @@
 // The report into a lent buffer: the seven lines of an event, the ending of malformed text, the number of a refusal.
-// A text is put together aside and then put whole, or refused with 11.
+// A text is measured first: it is refused with 11 before a byte changes, or put line by line.
 use buffer::Put;
 use event::Answer;
 use event::Refusal;
 use event::Shown;
 ghost use mathlib.Core.Path.{_≡_};
-ghost use Prim.Native.Nat.{_+_, _≤_};
-ghost use lib.ListN.{length};
+ghost use Prim.Native.Nat.{_+_, _/_, _%_, _≤_, _<_};
+ghost use lib.ListN.{length, set};
 ghost use lib.Seq.{sets};
+ghost use Rattle.decimal.specs.Decimal.{decimalOf};
 ghost use Rattle.buffer.specs.Put.{putOf, heldOf};
 ghost use Rattle.report.specs.Report.{fieldText, answerText, replyText, pinText, dutyText, entryText, malformedText};
 
-// A line at an index of a short text, and the index after it.
-fn field(name: &[u8], v: u32, text: &mut [u8], at: usize) -> usize
-    requires { ⌜ (at ≤ 4096) × (length (now name) ≤ 16) ⌝ }
-    ensures { λ r. ⌜ r ≡ at + length (fieldText (now (name .entry)) v) ⌝ }
-    ensures { λ _. ⌜ now (text .exit) ≡ sets (now (text .entry)) at (fieldText (now (name .entry)) v) ⌝ }
+// How many digits a byte has.
+fn width(v: u8) -> usize
+    ensures { λ r. ⌜ (r ≡ length (decimalOf v)) × (r ≤ 3) ⌝ }
 {
-    buffer::put_bytes(name, text, at);
-    let a = at + name.len();
-    let e = a + buffer::put_decimal(v, text, a);
-    buffer::put_byte(10, text, e, 0);
+    if v < 10 {
+        1
+    } else if v < 100 {
+        2
+    } else {
+        3
+    }
+}
+
+// How many digits a number has.
+fn digits(n: u32) -> usize
+    ensures { λ r. ⌜ (r ≡ length (decimalOf n)) × (r ≤ 10) ⌝ }
+{
+    if n < 10 {
+        return 1;
+    }
+    digits(n / 10) + 1
+}
+
+// The length of the seven lines of an event: names and newlines are 47 bytes.
+pub fn entry_len(answer: Answer, shown: Shown) -> usize
+    ensures { λ r. ⌜ (r ≡ length (entryText answer shown)) × (r ≤ 68) ⌝ }
+{
+    let reply = width(event::number_of(answer)) + width(event::data_of(answer));
+    let pins = width(shown.int) + width(shown.therm) + width(shown.fault);
+    let duties = width(shown.duty1) + width(shown.duty2);
+    47 + reply + pins + duties
+}
+
+// The length of the ending of malformed text.
+pub fn malformed_len(line: u32) -> usize
+    ensures { λ r. ⌜ (r ≡ length (malformedText line)) × (r ≤ 26) ⌝ }
+{
+    16 + digits(line)
+}
+
+// The length of the line of an answer's number.
+fn number_len(number: u8) -> usize
+    ensures { λ r. ⌜ r ≡ length (answerText number) ⌝ }
+{
+    8 + width(number)
+}
+
+// A digit where it has room, and the index after it.
+fn put_digit(v: u32, buf: &mut [u8], at: usize) -> usize
+    requires { ⌜ (v < 10) × (at < length (now buf)) ⌝ }
+    ensures { λ r. ⌜ r ≡ at + 1 ⌝ }
+    ensures { λ _. ⌜ now (buf .exit) ≡ set (now (buf .entry)) at (48 + v) ⌝ }
+{
+    buf[at] = b'0' + v as u8;
+    at + 1
+}
+
+// The two digits of a number below 100 likewise.
+fn put_pair(v: u32, buf: &mut [u8], at: usize) -> usize
+    requires { ⌜ (v < 100) × (at + 1 < length (now buf)) ⌝ }
+    ensures { λ r. ⌜ r ≡ at + 2 ⌝ }
+    ensures { λ _. ⌜ now (buf .exit) ≡ set (set (now (buf .entry)) at (48 + v / 10)) (at + 1) (48 + v % 10) ⌝ }
+{
+    buf[at] = b'0' + (v / 10) as u8;
+    buf[at + 1] = b'0' + (v % 10) as u8;
+    at + 2
+}
+
+// The digits of a number where they have room, and the index after them.
+fn put_digits(v: u32, buf: &mut [u8], at: usize) -> usize
+    requires { ⌜ at + length (decimalOf v) ≤ length (now buf) ⌝ }
+    ensures { λ r. ⌜ r ≡ at + length (decimalOf v) ⌝ }
+    ensures { λ _. ⌜ now (buf .exit) ≡ sets (now (buf .entry)) at (decimalOf v) ⌝ }
+{
+    if v < 10 {
+        return put_digit(v, buf, at);
+    }
+    if v < 100 {
+        return put_pair(v, buf, at);
+    }
+    if v < 1000 {
+        let a = put_digit(v / 100, buf, at);
+        return put_pair(v % 100, buf, a);
+    }
+    at + buffer::put_decimal(v, buf, at)
+}
+
+// A line where it has room, and the index after it.
+fn put_line(name: &[u8], v: u32, buf: &mut [u8], at: usize) -> usize
+    requires { ⌜ at + length (fieldText (now name) v) ≤ length (now buf) ⌝ }
+    ensures { λ r. ⌜ r ≡ at + length (fieldText (now (name .entry)) v) ⌝ }
+    ensures { λ _. ⌜ now (buf .exit) ≡ sets (now (buf .entry)) at (fieldText (now (name .entry)) v) ⌝ }
+{
+    buffer::put_whole(name, buf, at);
+    let e = put_digits(v, buf, at + name.len());
+    buf[e] = b'\n';
     e + 1
 }
 
-// answer= and data=, at the start of a text; then the pins, then the duties.
-fn reply(a: Answer, text: &mut [u8]) -> usize
-    ensures { λ r. ⌜ (r ≡ length (replyText a)) × (r ≤ 20) ⌝ }
-    ensures { λ _. ⌜ now (text .exit) ≡ sets (now (text .entry)) 0 (replyText a) ⌝ }
+// answer= and data=, then the pins, then the duties: each where it has room, and the index after it.
+fn put_reply(a: Answer, buf: &mut [u8], at: usize) -> usize
+    requires { ⌜ at + length (replyText a) ≤ length (now buf) ⌝ }
+    ensures { λ r. ⌜ r ≡ at + length (replyText a) ⌝ }
+    ensures { λ _. ⌜ now (buf .exit) ≡ sets (now (buf .entry)) at (replyText a) ⌝ }
 {
-    let e = field(b"answer=", event::number_of(a) as u32, text, 0);
-    field(b"data=", event::data_of(a) as u32, text, e)
+    let b = put_line(b"answer=", event::number_of(a) as u32, buf, at);
+    put_line(b"data=", event::data_of(a) as u32, buf, b)
 }
 
-fn pins(s: Shown, text: &mut [u8], at: usize) -> usize
-    requires { ⌜ at ≤ 1024 ⌝ }
-    ensures { λ r. ⌜ (r ≡ at + length (pinText s)) × (r ≤ at + 28) ⌝ }
-    ensures { λ _. ⌜ now (text .exit) ≡ sets (now (text .entry)) at (pinText s) ⌝ }
+fn put_pins(s: Shown, buf: &mut [u8], at: usize) -> usize
+    requires { ⌜ at + length (pinText s) ≤ length (now buf) ⌝ }
+    ensures { λ r. ⌜ r ≡ at + length (pinText s) ⌝ }
+    ensures { λ _. ⌜ now (buf .exit) ≡ sets (now (buf .entry)) at (pinText s) ⌝ }
 {
-    let a = field(b"int=", s.int as u32, text, at);
-    let b = field(b"therm=", s.therm as u32, text, a);
-    field(b"fault=", s.fault as u32, text, b)
+    let a = put_line(b"int=", s.int as u32, buf, at);
+    let b = put_line(b"therm=", s.therm as u32, buf, a);
+    put_line(b"fault=", s.fault as u32, buf, b)
 }
 
-fn duties(s: Shown, text: &mut [u8], at: usize) -> usize
-    requires { ⌜ at ≤ 1024 ⌝ }
-    ensures { λ r. ⌜ (r ≡ at + length (dutyText s)) × (r ≤ at + 20) ⌝ }
-    ensures { λ _. ⌜ now (text .exit) ≡ sets (now (text .entry)) at (dutyText s) ⌝ }
+fn put_duties(s: Shown, buf: &mut [u8], at: usize) -> usize
+    requires { ⌜ at + length (dutyText s) ≤ length (now buf) ⌝ }
+    ensures { λ r. ⌜ r ≡ at + length (dutyText s) ⌝ }
+    ensures { λ _. ⌜ now (buf .exit) ≡ sets (now (buf .entry)) at (dutyText s) ⌝ }
 {
-    let a = field(b"duty1=", s.duty1 as u32, text, at);
-    field(b"duty2=", s.duty2 as u32, text, a)
+    let a = put_line(b"duty1=", s.duty1 as u32, buf, at);
+    put_line(b"duty2=", s.duty2 as u32, buf, a)
+}
+
+// The seven lines of an event where they have room, and the index after them.
+fn put_lines(answer: Answer, shown: Shown, buf: &mut [u8], at: usize) -> usize
+    requires { ⌜ at + length (entryText answer shown) ≤ length (now buf) ⌝ }
+    ensures { λ r. ⌜ r ≡ at + length (entryText answer shown) ⌝ }
+    ensures { λ _. ⌜ now (buf .exit) ≡ sets (now (buf .entry)) at (entryText answer shown) ⌝ }
+{
+    let a = put_reply(answer, buf, at);
+    let b = put_pins(shown, buf, a);
+    put_duties(shown, buf, b)
+}
+
+// The ending of malformed text likewise.
+fn put_ending(line: u32, buf: &mut [u8], at: usize) -> usize
+    requires { ⌜ at + length (malformedText line) ≤ length (now buf) ⌝ }
+    ensures { λ r. ⌜ r ≡ at + length (malformedText line) ⌝ }
+    ensures { λ _. ⌜ now (buf .exit) ≡ sets (now (buf .entry)) at (malformedText line) ⌝ }
+{
+    let number = event::refusal_number(Refusal::Malformed);
+    let a = put_line(b"answer=", number as u32, buf, at);
+    put_line(b"line=", line, buf, a)
 }
 
 // The seven lines of an event.
@@ -57,11 +167,11 @@ pub fn put_entry(answer: Answer, shown: Shown, buf: &mut [u8], at: usize) -> Put
     ensures { λ r. ⌜ r ≡ putOf (now (buf .entry)) at (entryText answer shown) ⌝ }
     ensures { λ _. ⌜ now (buf .exit) ≡ heldOf (now (buf .entry)) at (entryText answer shown) ⌝ }
 {
-    let mut text = [0u8; 68];
-    let a = reply(answer, &mut text);
-    let b = pins(shown, &mut text, a);
-    let e = duties(shown, &mut text, b);
-    buffer::put_whole(&text[0..e], buf, at)
+    if buffer::fits(at, entry_len(answer, shown), buf.len()) {
+        Put::End(put_lines(answer, shown, buf, at))
+    } else {
+        Put::Refused(Refusal::WrongSize)
+    }
 }
 
 // The ending of malformed text, with the number of its first wrong line.
@@ -69,11 +179,11 @@ pub fn put_malformed(line: u32, buf: &mut [u8], at: usize) -> Put
     ensures { λ r. ⌜ r ≡ putOf (now (buf .entry)) at (malformedText line) ⌝ }
     ensures { λ _. ⌜ now (buf .exit) ≡ heldOf (now (buf .entry)) at (malformedText line) ⌝ }
 {
-    let number = event::refusal_number(Refusal::Malformed);
-    let mut text = [0u8; 32];
-    let a = field(b"answer=", number as u32, &mut text, 0);
-    let e = field(b"line=", line, &mut text, a);
-    buffer::put_whole(&text[0..e], buf, at)
+    if buffer::fits(at, malformed_len(line), buf.len()) {
+        Put::End(put_ending(line, buf, at))
+    } else {
+        Put::Refused(Refusal::WrongSize)
+    }
 }
 
 // The line of an answer's number: the whole report of a text that is refused.
@@ -81,7 +191,9 @@ pub fn put_number(number: u8, buf: &mut [u8], at: usize) -> Put
     ensures { λ r. ⌜ r ≡ putOf (now (buf .entry)) at (answerText number) ⌝ }
     ensures { λ _. ⌜ now (buf .exit) ≡ heldOf (now (buf .entry)) at (answerText number) ⌝ }
 {
-    let mut text = [0u8; 12];
-    let e = field(b"answer=", number as u32, &mut text, 0);
-    buffer::put_whole(&text[0..e], buf, at)
+    if buffer::fits(at, number_len(number), buf.len()) {
+        Put::End(put_line(b"answer=", number as u32, buf, at))
+    } else {
+        Put::Refused(Refusal::WrongSize)
+    }
 }

@@ -15,7 +15,8 @@ use Rattle.event.specs.declared.Refusal.the-variants.{WrongSize}
 use Rattle.buffer.specs.Put.{putOf, heldOf}
 use Rattle.buffer.specs.declared.Put.{Put}
 use Rattle.buffer.specs.declared.Put.the-variants.{End, Refused}
-use Rattle.buffer.proofs.Laws.{sets-append, put-stands, held-there}
+use Rattle.buffer.proofs.TextLaws.{sets-append}
+use Rattle.buffer.proofs.WholeLaws.{put-stands, held-there}
 use Rattle.trace.specs.Trace.{eventAt, eventText}
 use Rattle.trace.specs.declared.Reading.{Reading}
 use Rattle.trace.specs.declared.Reading.the-variants as reading

@@ -12,7 +12,7 @@ use Rattle.event.specs.declared.Event.{Event}
 use Rattle.buffer.specs.Put.{putOf, heldOf}
 use Rattle.buffer.specs.declared.Put.{Put}
 use Rattle.buffer.specs.declared.Put.the-variants.{End}
-use Rattle.buffer.proofs.Laws.{put-as, held-as}
+use Rattle.buffer.proofs.WholeLaws.{put-as, held-as}
 use Rattle.line.specs.Line.{lineAt}
 use Rattle.trace.specs.Trace.{eventAt}
 use Rattle.trace.specs.declared.Reading.{Reading}

@@ -25,7 +25,7 @@ use Rattle.event.specs.declared.Answer.{Answer}
 use Rattle.event.specs.declared.Shown.{Shown}
 use Rattle.event.specs.declared.Refusal.the-variants.{WrongSize}
 use Rattle.buffer.specs.declared.Put.the-variants.{End, Refused}
-use Rattle.buffer.proofs.Laws.{sets-append}
+use Rattle.buffer.proofs.TextLaws.{sets-append}
 use Rattle.rules.specs.Replies.{taken}
 use Rattle.rules.specs.Shows.{answer, shown}
 use Rattle.keeper.specs.Keeping.{outcomeOf}
@@ -36,8 +36,8 @@ use Rattle.history.specs.Agreement.{run}
 use Rattle.history.proofs.Agree.{agreement}
 use Rattle.stepper.specs.declared.Parsed.{Parsed}
 use Rattle.stepper.specs.declared.Parsed.the-variants.{Event, Nothing}
-use Rattle.stepper.specs.Steps.{eventFrom, eventNumbered, isEvent, eventCountFrom, eventCount, firstEvents, outcomeBytes, outcomesOf, wellSized}
-use Rattle.stepper.specs.Steps.{stepsAnswer, stepsBuffer}
+use Rattle.stepper.specs.Steps.{eventFrom, eventNumbered, isEvent, eventCountFrom, eventCount, firstEvents}
+use Rattle.stepper.specs.Steps.{outcomeBytes, outcomesOf, wellSized, stepsAnswer, stepsBuffer}
 
 -- ---- an event from four numbers
 

@@ -1,6 +1,6 @@
 -- Laws of the trace text as it is written: lines put one behind the other in an array aside, and how long they are. Assumes nothing.
 use Prim.Native.Nat.{ℕ, _+_, _-_, _*_, _≤_}
-use mathlib.Core.Path.{_≡_, ap, _∙_}
+use mathlib.Core.Path.{_≡_, refl, ap, _∙_}
 use mathlib.Core.List.{List, [], _∷_, _++_, append-assoc}
 use native.Mathlib.Omega.{arith}
 use borrow.Author.Needs.{needs}
@@ -22,7 +22,7 @@ use Rattle.line.specs.Line.{lineAt, endAt}
 use Rattle.line.proofs.Lines.{ended-part}
 use Rattle.decimal.specs.Decimal.{textOf}
 use Rattle.decimal.proofs.Laws.{text-width}
-use Rattle.buffer.proofs.Laws.{then, end-then, line-end, line-put, aside, aside-room}
+use Rattle.buffer.proofs.TextLaws.{then, end-then, line-end, line-put, aside, aside-room}
 use Rattle.trace.specs.Words.{kindText, kindTable, whoName, argName, valName}
 use Rattle.trace.specs.Trace.{ended, numberText, numbersText, eventText}
 use Rattle.trace.proofs.Words.{slot-line}
@@ -86,12 +86,12 @@ module _ (name : List ℕ) (v : ℤ) (f : SFits w32 v) (at : ℕ) {k : ℕ} (q :
 
   pub number-end : at + length name + k + 1 ≡ at + length (numberText name v)
   unfolding numberText
-  number-end = rw append-assoc (line-end name (textOf v) at digits)
+  number-end = rw append-assoc (line-end name (textOf v) at refl (ap (λ (n : ℕ). at + length name + n) digits))
 
-  pub number-put : (d d1 d2 : List ℕ) {d3 : List ℕ} → d1 ≡ sets d at name → d2 ≡ sets d1 (at + length name) (textOf (toZ w32 (ofZ w32 v))) → d3 ≡ set d2 (at + length name + k + 0) 10
-      → d3 ≡ sets d at (numberText name v)
+  pub number-put : (d d1 d2 : List ℕ) {d3 : List ℕ} → d1 ≡ sets d at name → d2 ≡ sets d1 (at + length name) (textOf (toZ w32 (ofZ w32 v)))
+      → d3 ≡ set d2 (at + length name + k + 0) 10 → d3 ≡ sets d at (numberText name v)
   unfolding numberText
-  number-put d d1 d2 h1 h2 h3 = rw append-assoc (line-put name (textOf v) at digits d d1 d2 h1 (rw (toZ-ofZ w32 v f) at h2) h3)
+  number-put d d1 d2 h1 h2 h3 = rw append-assoc (line-put name (textOf v) at refl (omega (arith, digits)) d d1 d2 h1 (rw (toZ-ofZ w32 v f) at h2) h3)
 
 -- ---- the lines of an event
 
@@ -107,12 +107,13 @@ module _ (n : Numbers) (who : SFits w32 (n .who)) (arg : SFits w32 (n .arg)) (va
   pub numbers-end : {e : ℕ} → e ≡ at + length (sent whoName (n .who) ++ (sent argName (n .arg) ++ sent valName (n .val))) → e ≡ at + length (numbersText n)
   numbers-end h = h ∙ ap (λ (t : List ℕ). at + length t) numbers-text
 
-  pub numbers-put : (z : List ℕ) {d : List ℕ} → d ≡ sets z at (sent whoName (n .who) ++ (sent argName (n .arg) ++ sent valName (n .val))) → d ≡ sets z at (numbersText n)
+  pub numbers-put : (z : List ℕ) {d : List ℕ} → d ≡ sets z at (sent whoName (n .who) ++ (sent argName (n .arg) ++ sent valName (n .val)))
+      → d ≡ sets z at (numbersText n)
   numbers-put z h = h ∙ ap (sets z at) numbers-text
 
 module _ (e : Event) {n : Numbers} {k : Kind} (hn : n ≡ numbersOf e) (hk : k ≡ kindOf e) (z d1 : List ℕ) (a : ℕ) {d2 : List ℕ} {b : ℕ}
-    (h2 : d2 ≡ sets d1 a (numbersText n)) (q2 : b ≡ a + length (numbersText n)) (h1 : d1 ≡ sets z 0 (ended (kindText k))) (q1 : a ≡ length (ended (kindText k)))
-    (n2 : b ≤ a + 48) (n1 : a ≤ 12) (l : length z ≡ 60) where
+    (h2 : d2 ≡ sets d1 a (numbersText n)) (q2 : b ≡ a + length (numbersText n))
+    (h1 : d1 ≡ sets z 0 (ended (kindText k))) (q1 : a ≡ length (ended (kindText k))) (n2 : b ≤ a + 48) (n1 : a ≤ 12) (l : length z ≡ 60) where
   from-start : a ≡ 0 + length (ended (kindText k))
   from-start = omega arith
 

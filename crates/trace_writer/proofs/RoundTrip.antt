@@ -10,7 +10,7 @@ use Rattle.event.specs.declared.Event.{Event}
 use Rattle.event.specs.Kinds.{numbersOf}
 use Rattle.buffer.specs.declared.Put.the-variants.{End}
 use Rattle.buffer.specs.Put.{putOf, heldOf}
-use Rattle.buffer.proofs.Laws.{put-stands}
+use Rattle.buffer.proofs.WholeLaws.{put-stands}
 use Rattle.trace.specs.declared.Reading.the-variants as reading
 use Rattle.trace.specs.Trace.{eventAt, eventText}
 use Rattle.trace.proofs.RoundTrip.{round-trip}

@@ -1,6 +1,6 @@
 use Prim.Native.Nat.{ℕ, _<_}
 use borrow.Author.Needs.{needs}
-use Rattle.buffer.proofs.Laws.{small-put, large-put, small-end, large-end, large-fits}
+use Rattle.buffer.proofs.TextLaws.{small-put, large-put, small-end, large-end, large-fits}
 use borrow.Fn.Kinds.{In}
 use borrow.Fn.PlainCycle.{Measures, is, falls, and}
 use Rattle.buffer.proofs.put_decimal.Reads as put-decimal

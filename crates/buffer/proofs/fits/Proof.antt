@@ -1,4 +1,4 @@
-use Rattle.buffer.proofs.Laws.{fits-past, fits-from}
+use Rattle.buffer.proofs.WholeLaws.{fits-past, fits-from}
 use Rattle.buffer.proofs.fits.Statement.{statement}
 use Rattle.buffer.proofs.fits.Tie as tie
 

@@ -1,4 +1,4 @@
-use Rattle.buffer.proofs.Laws.{past}
+use Rattle.buffer.proofs.TextLaws.{past}
 use native.Mathlib.Omega.{arith}
 use borrow.Author.Needs.{needs}
 use Rattle.buffer.proofs.put_byte.Statement.{statement}

@@ -1,5 +1,5 @@
 use native.Mathlib.Omega.{arith}
-use Rattle.buffer.proofs.Laws.{one-fits, past-put, cons-put, cons-length}
+use Rattle.buffer.proofs.TextLaws.{one-fits, past-put, cons-put, cons-length}
 use borrow.Author.Needs.{needs}
 use Rattle.buffer.proofs.put_negative.Statement.{statement}
 use Rattle.buffer.proofs.put_negative.Tie as tie

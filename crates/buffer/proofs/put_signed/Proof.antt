@@ -1,4 +1,4 @@
-use Rattle.buffer.proofs.Laws.{end-same, put-same, nat-text, neg-text, neg-fits}
+use Rattle.buffer.proofs.TextLaws.{end-same, put-same, nat-text, neg-text, neg-fits}
 use borrow.Author.Needs.{needs}
 use Rattle.buffer.proofs.put_signed.Statement.{statement}
 use Rattle.buffer.proofs.put_signed.Tie as tie

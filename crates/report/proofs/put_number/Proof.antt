@@ -1,46 +1,40 @@
-use Rattle.report.proofs.Laws.{number-room, number-aside}
-use Rattle.buffer.proofs.Laws.{put-as, held-as}
+use Rattle.buffer.proofs.WholeLaws.{whole-room, put-fits, held-fits, put-refused, held-refused}
+use Rattle.report.specs.Report.{answerText}
 use borrow.Author.Needs.{needs}
 use Rattle.report.proofs.put_number.Statement.{statement}
 use Rattle.report.proofs.put_number.Tie as tie
 
-slice-aggregate-field : tie.Need-slice-aggregate-field
-slice-aggregate-field c = search needs
+number-len-requires : tie.Need-number-len-requires
+number-len-requires c κs = search needs
 
-slice-aggregate-field-2 : tie.Need-slice-aggregate-field-2
-slice-aggregate-field-2 c = search needs
+fits-requires : tie.Need-fits-requires
+fits-requires c κs = search needs
 
-field-requires : tie.Need-field-requires
-field-requires c κs = search needs
+slice-aggregate-put-line : tie.Need-slice-aggregate-put-line
+slice-aggregate-put-line c = search needs
 
-sub-put-whole : tie.Need-sub-put-whole
-sub-put-whole c = search needs
-
-part-put-whole-start : tie.Need-part-put-whole-start
-part-put-whole-start c = search needs
-
-part-put-whole-end : tie.Need-part-put-whole-end
-part-put-whole-end c = search number-room
-
-put-whole-requires : tie.Need-put-whole-requires
-put-whole-requires c κs = search needs
+put-line-requires : tie.Need-put-line-requires
+unfolding answerText
+put-line-requires c κs = search whole-room
 
 same-length : tie.Need-same-length
 same-length c = search needs
 
 returns : tie.Need-returns
-returns c = (search (put-as, number-aside), search (held-as, number-aside))
+unfolding answerText
+returns c = (search put-fits, search held-fits)
+
+returns-2 : tie.Need-returns-2
+returns-2 c = (search put-refused, search held-refused)
 
 pub put-number-spec : {M : Type 1} → statement M
 put-number-spec =
     tie.close
     (tie.spec
-    slice-aggregate-field
-    slice-aggregate-field-2
-    field-requires
-    sub-put-whole
-    part-put-whole-start
-    part-put-whole-end
-    put-whole-requires
+    number-len-requires
+    fits-requires
+    slice-aggregate-put-line
+    put-line-requires
     same-length
-    returns)
+    returns
+    returns-2)

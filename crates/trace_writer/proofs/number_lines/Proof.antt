@@ -1,4 +1,4 @@
-use Rattle.buffer.proofs.Laws.{then, end-then}
+use Rattle.buffer.proofs.TextLaws.{then, end-then}
 use native.Mathlib.Omega.{arith}
 use Rattle.trace_writer.proofs.Laws.{numbers-end, numbers-put}
 use borrow.Author.Needs.{needs}

@@ -1,4 +1,4 @@
-use Rattle.buffer.proofs.Laws.{put-as, held-as}
+use Rattle.buffer.proofs.WholeLaws.{put-as, held-as}
 use Rattle.trace_writer.proofs.Laws.{event-room, event-aside}
 use borrow.Author.Needs.{needs}
 use Rattle.trace_writer.proofs.put_event.Statement.{statement}

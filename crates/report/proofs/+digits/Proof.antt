@@ -1,13 +1,14 @@
 use native.Mathlib.Omega.{arith}
-use Rattle.measure.proofs.Laws.{one-digit, more-digits, ten-digits}
+use Rattle.report.proofs.LengthLaws.{ten-digits}
+use Rattle.buffer.proofs.TextLaws.{small-end, large-end}
 use Prim.Native.Nat.{ℕ, _<_}
 use borrow.Fn.Kinds.{In}
 use borrow.Fn.PlainCycle.{Measures, is, falls, and}
-use Rattle.measure.proofs.digits.Reads as digits
-use Rattle.measure.proofs.digits.Kinds as digits-kinds
-use Rattle.measure.proofs.+digits.Lts-digits as digits-lts
-use Rattle.measure.proofs.+digits.{statement}
-use Rattle.measure.proofs.+digits.Tie.{close}
+use Rattle.report.proofs.digits.Reads as digits
+use Rattle.report.proofs.digits.Kinds as digits-kinds
+use Rattle.report.proofs.+digits.Lts-digits as digits-lts
+use Rattle.report.proofs.+digits.{statement}
+use Rattle.report.proofs.+digits.Tie.{close}
 
 abbrev μ-digits : Measures 0 digits-kinds.ps ℕ
 μ-digits κs a = a .0
@@ -20,7 +21,7 @@ digits-below t = and 0 digits-kinds.ps (falls 0 digits-kinds.ps _<_ μ-digits t)
 
 digits-returns :
     (t : ℕ) → digits-lts.Need-returns (digits-below t, digits.Post) (digits-at t) digits.Post
-digits-returns t c = (search one-digit, omega arith)
+digits-returns t c = (search small-end, omega arith)
 
 digits-digits-requires :
     (t : ℕ) →
@@ -33,7 +34,7 @@ digits-add-result t c = omega arith
 
 digits-returns-2 :
     (t : ℕ) → digits-lts.Need-returns-2 (digits-below t, digits.Post) (digits-at t) digits.Post
-digits-returns-2 t c = (search more-digits, search ten-digits)
+digits-returns-2 t c = (search large-end, search ten-digits)
 
 pub +digits-spec : {M : Type 1} → statement M
 +digits-spec =

@@ -1,10 +1,11 @@
 use native.Mathlib.Omega.{arith}
-use Rattle.measure.proofs.Laws.{one-digit, width-two, width-three}
-use Rattle.measure.proofs.width.Statement.{statement}
-use Rattle.measure.proofs.width.Tie as tie
+use Rattle.report.proofs.LengthLaws.{width-two, width-three}
+use Rattle.buffer.proofs.TextLaws.{small-end}
+use Rattle.report.proofs.width.Statement.{statement}
+use Rattle.report.proofs.width.Tie as tie
 
 returns : tie.Need-returns
-returns c = (search one-digit, omega arith)
+returns c = (search small-end, omega arith)
 
 returns-2 : tie.Need-returns-2
 returns-2 c = (search width-two, omega arith)

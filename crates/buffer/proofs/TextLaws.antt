@@ -1,29 +1,21 @@
 -- Texts in a buffer: bytes stored one behind the other, what is past the end dropped. Assumes nothing.
 use Prim.Native.Nat.{ℕ, suc, _+_, _-_, _/_, _%_, _≤_, _<_}
 use mathlib.Core.Path.{_≡_, refl, sym, ap, _∙_}
-use mathlib.Core.List.{List, [], _∷_, _++_, append-assoc}
-use mathlib.Core.Bool.{Bool, true, false, cond}
+use mathlib.Core.List.{List, [], _∷_, _++_}
 use native.Mathlib.Omega.{arith}
-use native.Mathlib.Nat.{add-zero}
+use native.Mathlib.Nat.{add-zero, sub-zero}
 use native.Mathlib.Numerals.{add-one}
-use lib.Dec.{leb}
 use lib.IntN.{ℤ, pos, negsuc}
-use lib.ListN.{length, getD, take, drop, set, length-append, length-set}
+use lib.ListN.{length, getD, take, drop, set, length-append, length-set, take-append-drop}
 use lib.Seq.{sets, sets-eq, length-sets, set-out, take-suc, take-all, take-at, length-take-le}
 use mir.Syntax.{w32, w64}
 use mir.Val.{Fits, SFits, toZ, ofZ}
 use mir.ValLaws.{toZ-ofZ}
-use borrow.Author.Tests.{le-leb, lt-leb, leb-true, leb-false}
 use Rattle.integer.specs.declared.Split.{Split}
 use Rattle.integer.specs.declared.Split.the-variants.{Nat, Neg}
 use Rattle.integer.specs.Range.{splitOf}
-use Rattle.event.specs.declared.Refusal.{Refusal}
-use Rattle.event.specs.declared.Refusal.the-variants.{WrongSize}
 use Rattle.decimal.specs.Decimal.{decimalOf, textOf}
 use Rattle.decimal.proofs.Laws.{decimal-small, decimal-large, small-length, decimal-length, decimal-bound}
-use Rattle.buffer.specs.declared.Put.{Put}
-use Rattle.buffer.specs.declared.Put.the-variants.{End, Refused}
-use Rattle.buffer.specs.Put.{putOf, heldOf, endOf}
 
 -- ---- runs of stores
 
@@ -44,16 +36,32 @@ then d d1 d2 t1 t2 at e h1 he h2 = rw (sets-append, ← h1, ← he) h2
 pub end-then : (t1 t2 : List ℕ) (at e e2 : ℕ) → e ≡ at + length t1 → e2 ≡ e + length t2 → e2 ≡ at + length (t1 ++ t2)
 end-then t1 t2 at e e2 h h2 = omega (arith, length-append t1 t2)
 
+-- where both have room, so has each in its turn
+module _ (d t u : List ℕ) (at : ℕ) (room : at + length (t ++ u) ≤ length d) where
+  pub first-room : at + length t ≤ length d
+  first-room = omega (arith, length-append t u)
+
+  pub next-room : {d1 : List ℕ} {e : ℕ} → d1 ≡ sets d at t → e ≡ at + length t → e + length u ≤ length d1
+  next-room h q = rw (h, length-sets) (omega (arith, length-append t u))
+
+-- and of three the second and the third
+module _ (d t u v : List ℕ) (at : ℕ) (room : at + length (t ++ (u ++ v)) ≤ length d) {d1 : List ℕ} {e : ℕ} (h : d1 ≡ sets d at t) (q : e ≡ at + length t) where
+  pub middle-room : e + length u ≤ length d1
+  middle-room = first-room d1 u v e (next-room d t (u ++ v) at room h q)
+
+  pub last-room : {d2 : List ℕ} {e2 : ℕ} → d2 ≡ sets d1 e u → e2 ≡ e + length u → e2 + length v ≤ length d2
+  last-room = next-room d1 u v e (next-room d t (u ++ v) at room h q)
+
 -- a name, a text and a newline, and where they end
-module _ (name t : List ℕ) (at : ℕ) {k : ℕ} (q : k ≡ length t) where
-  pub line-end : at + length name + k + 1 ≡ at + length (name ++ (t ++ (10 ∷ [])))
+module _ (name t : List ℕ) (at : ℕ) {a e : ℕ} (qa : a ≡ at + length name) (qe : e ≡ a + length t) where
+  pub line-end : e + 1 ≡ at + length (name ++ (t ++ (10 ∷ [])))
   line-end = omega (arith, length-append name (t ++ (10 ∷ [])), length-append t (10 ∷ []))
 
-  pub line-put : (d d1 d2 : List ℕ) {d3 : List ℕ} → d1 ≡ sets d at name → d2 ≡ sets d1 (at + length name) t → d3 ≡ set d2 (at + length name + k + 0) 10
+  pub line-put : (d d1 d2 : List ℕ) {d3 : List ℕ} → d1 ≡ sets d at name → d2 ≡ sets d1 a t → d3 ≡ set d2 e 10
       → d3 ≡ sets d at (name ++ (t ++ (10 ∷ [])))
   line-put d d1 d2 {d3} h1 h2 h3 =
-      then d d1 d3 name (t ++ (10 ∷ [])) at (at + length name) h1 refl
-      (then d1 d2 d3 t (10 ∷ []) (at + length name) (at + length name + k + 0) h2 (omega arith) h3)
+      then d d1 d3 name (t ++ (10 ∷ [])) at a h1 qa
+      (then d1 d2 d3 t (10 ∷ []) a e h2 qe h3)
 
 -- a text put together aside, in z from its start on, lies within it, and is its part up to the text's end
 module _ (z t : List ℕ) {d : List ℕ} {e : ℕ} (h : d ≡ sets z 0 t) (q : e ≡ 0 + length t) (f : length t ≤ length z) where
@@ -63,85 +71,26 @@ module _ (z t : List ℕ) {d : List ℕ} {e : ℕ} (h : d ≡ sets z 0 t) (q : e
   pub aside : take (e - 0) (drop 0 d) ≡ t
   aside = rw (h, sets-eq t z 0 (omega arith)) (take-at t (drop (0 + length t) z) (e - 0) (omega arith))
 
--- ---- a text that is put whole or refused
-
--- by the answer of `fits`
-module _ (d t : List ℕ) (at : ℕ) {b : Bool} (q : b ≡ leb (at + length t) (length d)) where
-  pub whole-fits : b ≡ true → Fits w64 (length d) → Fits w64 (at + length t)
-  whole-fits h f = omega (arith, leb-true (at + length t) (length d) (sym q ∙ h))
-
-  pub put-fits : b ≡ true → End (at + length t) ≡ putOf d at t
-  unfolding putOf
-  put-fits h = rw (← q, h)
-
-  pub held-fits : {d′ : List ℕ} → b ≡ true → d′ ≡ sets d at t → d′ ≡ heldOf d at t
-  unfolding heldOf
-  held-fits h e = rw (← q, h) e
-
-  pub put-refused : b ≡ false → Refused WrongSize ≡ putOf d at t
-  unfolding putOf
-  put-refused h = rw (← q, h)
-
-  pub held-refused : b ≡ false → d ≡ heldOf d at t
-  unfolding heldOf
-  held-refused h = rw (← q, h)
-
--- where it fits
-module _ (d t : List ℕ) (at : ℕ) (room : at + length t ≤ length d) where
-  put-there : putOf d at t ≡ End (at + length t)
-  unfolding putOf
-  put-there = rw (le-leb (at + length t) (length d) room)
-
-  pub end-there : {p : Put} {e : ℕ} (z : ℕ) → p ≡ putOf d at t → e ≡ endOf p z → e ≡ at + length t
-  end-there z q h = h ∙ ap (λ (p : Put). endOf p z) (q ∙ put-there)
-
-  pub held-there : {d′ : List ℕ} → d′ ≡ heldOf d at t → d′ ≡ sets d at t
-  unfolding heldOf
-  held-there q = q ∙ rw (le-leb (at + length t) (length d) room)
-
-  pub never-refused : {p : Put} {r : Refusal} → p ≡ putOf d at t → p ≡ Refused r → ⊥
-  never-refused {p} {r} q h = let e : Refused r ≡ End (at + length t) = sym h ∙ q ∙ put-there in let z : _≡_ {A = ℕ} 0 1 = cc in omega arith
-
--- where a text is another, so are the answer and what the buffer holds
-pub put-as : {r : Put} (d s t : List ℕ) (at : ℕ) → r ≡ putOf d at s → s ≡ t → r ≡ putOf d at t
-put-as d s t at h q = rw q at h
-
-pub held-as : {d1 : List ℕ} (d s t : List ℕ) (at : ℕ) → d1 ≡ heldOf d at s → s ≡ t → d1 ≡ heldOf d at t
-held-as d s t at h q = rw q at h
-
--- a text that was put stands from the index on up to where it ends, and nothing else has changed
-pub put-stands : (d t : List ℕ) (at n : ℕ) → putOf d at t ≡ End n → (n ≡ at + length t) × (at ≤ length d) × (heldOf d at t ≡ take at d ++ (t ++ drop n d))
-unfolding putOf heldOf
-put-stands d t at n p = go (leb (at + length t) (length d)) refl p
-  where
-    go : (b : Bool) → leb (at + length t) (length d) ≡ b → cond b (End (at + length t)) (Refused WrongSize) ≡ End n
-        → (n ≡ at + length t) × (at ≤ length d) × (cond b (sets d at t) d ≡ take at d ++ (t ++ drop n d))
-    go true h q =
-        let e : n ≡ at + length t = cc in
-        let l : at + length t ≤ length d = leb-true (at + length t) (length d) h in
-        (e, omega arith, rw e (sets-eq t d at l ∙ append-assoc (take at d) t (drop (at + length t) d)))
-    go false h q = let z : _≡_ {A = ℕ} 0 1 = cc in absurd (omega arith)
-
--- ---- room
-
-pub fits-past : (at n len : ℕ) → len < at → false ≡ leb (at + n) len
-fits-past at n len h = sym (lt-leb (at + n) len (omega arith))
-
-pub fits-from : (at n len : ℕ) → at ≤ len → leb n (len - at) ≡ leb (at + n) len
-fits-from at n len h = go (leb n (len - at)) refl
-  where
-    go : (t : Bool) → leb n (len - at) ≡ t → t ≡ leb (at + n) len
-    go true q = sym (le-leb (at + n) len (omega (arith, leb-true n (len - at) q)))
-    go false q = sym (lt-leb (at + n) len (omega (arith, leb-false n (len - at) q)))
-
 -- ---- bytes
 
 -- past the end
 pub past : (d : List ℕ) (i b : ℕ) → length d ≤ i → d ≡ set d i b
 past d i b h = sym (set-out d i b h)
 
+-- so much of a text as has room
+pub cut-put : (d text : List ℕ) (at k : ℕ) {d1 : List ℕ} → k ≡ length d - at → at ≤ length d → k < length text
+    → d1 ≡ sets d at (take (k - 0) (drop 0 text)) → d1 ≡ sets d at text
+cut-put d text at k q l h e =
+    let n : length (take k text) ≡ k = length-take-le k text (omega arith) in
+    rw sub-zero at e ∙ sym (sets-past (drop k text) (sets d at (take k text)) (at + length (take k text)) (rw (length-sets, n) (omega arith)))
+    ∙ sym (sets-append (take k text) (drop k text) d at) ∙ ap (sets d at) (take-append-drop k text)
+
+pub past-all : (d text : List ℕ) (at : ℕ) → length d < at → d ≡ sets d at text
+past-all d text at h = sym (sets-past text d at (omega arith))
+
 -- the first i bytes of a text, one more, and all of them
-pub copy-more : (d d1 d2 text : List ℕ) (at i : ℕ) → d1 ≡ sets d at (take i text) → i < length text → d2 ≡ set d1 (at + i) (getD text i 0) → d2 ≡ sets d at (take (i + 1) text)
+pub copy-more : (d d1 d2 text : List ℕ) (at i : ℕ) → d1 ≡ sets d at (take i text) → i < length text → d2 ≡ set d1 (at + i) (getD text i 0)
+    → d2 ≡ sets d at (take (i + 1) text)
 copy-more d d1 d2 text at i e h q =
     let n : length (take i text) ≡ i = length-take-le i text (omega arith) in
     rw (add-one, take-suc text i 0, sets-append, n, ← e) q

@@ -1,8 +1,8 @@
 use native.Mathlib.Omega.{arith}
-use Rattle.measure.proofs.Laws.{malformed-sum}
+use Rattle.report.proofs.LengthLaws.{malformed-sum}
 use borrow.Author.Needs.{needs}
-use Rattle.measure.proofs.malformed_len.Statement.{statement}
-use Rattle.measure.proofs.malformed_len.Tie as tie
+use Rattle.report.proofs.malformed_len.Statement.{statement}
+use Rattle.report.proofs.malformed_len.Tie as tie
 
 digits-requires : tie.Need-digits-requires
 digits-requires c κs = search needs

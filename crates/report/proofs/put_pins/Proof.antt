@@ -1,0 +1,58 @@
+use Rattle.buffer.proofs.TextLaws.{then, end-then, first-room, middle-room, last-room}
+use Rattle.report.specs.Report.{pinText}
+use borrow.Author.Needs.{needs}
+use Rattle.report.proofs.put_pins.Statement.{statement}
+use Rattle.report.proofs.put_pins.Tie as tie
+
+slice-aggregate-put-line : tie.Need-slice-aggregate-put-line
+slice-aggregate-put-line c = search needs
+
+cast-put-line : tie.Need-cast-put-line
+cast-put-line c = search needs
+
+put-line-requires : tie.Need-put-line-requires
+unfolding pinText
+put-line-requires c κs = search first-room
+
+slice-aggregate-put-line-2 : tie.Need-slice-aggregate-put-line-2
+slice-aggregate-put-line-2 c = search needs
+
+cast-put-line-2 : tie.Need-cast-put-line-2
+cast-put-line-2 c = search needs
+
+put-line-requires-2 : tie.Need-put-line-requires-2
+unfolding pinText
+put-line-requires-2 c κs = search middle-room
+
+slice-aggregate-put-line-3 : tie.Need-slice-aggregate-put-line-3
+slice-aggregate-put-line-3 c = search needs
+
+cast-put-line-3 : tie.Need-cast-put-line-3
+cast-put-line-3 c = search needs
+
+put-line-requires-3 : tie.Need-put-line-requires-3
+unfolding pinText
+put-line-requires-3 c κs = search last-room
+
+same-length : tie.Need-same-length
+same-length c = search needs
+
+returns : tie.Need-returns
+unfolding pinText
+returns c = (search end-then, search then)
+
+pub put-pins-spec : {M : Type 1} → statement M
+put-pins-spec =
+    tie.close
+    (tie.spec
+    slice-aggregate-put-line
+    cast-put-line
+    put-line-requires
+    slice-aggregate-put-line-2
+    cast-put-line-2
+    put-line-requires-2
+    slice-aggregate-put-line-3
+    cast-put-line-3
+    put-line-requires-3
+    same-length
+    returns)
