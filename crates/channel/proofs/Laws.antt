@@ -3,7 +3,7 @@ use Prim.Native.Nat.{ℕ}
 use mathlib.Core.Bool.{Bool, true, false, cond, not, _&&_, _||_}
 use mathlib.Core.Path.{_≡_, refl, sym, _∙_}
 use borrow.Author.Tests.{not-true}
-use Rattle.integer.proofs.BoolLaws.{neither}
+use Rattle.integer.proofs.BoolLaws.{both, neither}
 use Rattle.part.specs.declared.ChannelId.{ChannelId}
 use Rattle.part.specs.declared.ChannelId.the-variants.{Local, Remote1, Remote2}
 use Rattle.part.specs.declared.FanId.{FanId}
@@ -17,7 +17,8 @@ use Rattle.input.specs.Inputs.{isA, isSample, isRestart}
 use Rattle.input.specs.declared.Input.{Input}
 use Rattle.stored.specs.declared.Context.{Context}
 use Rattle.channel.specs.Channels.{sampledIn, readingAfter, flagAtSample, latchAfter, flagAfter, channelOnIn, clearsBit, statusBitAfter}
-use Rattle.channel.specs.Channels.{highBitAfter, lowBitAfter, thermBitAfter, errorIn, errorAfter, passesBy, channelKept, channelAfter, channelsAfter}
+use Rattle.channel.specs.Channels.{highBitAfter, lowBitAfter, thermBitAfter, errorIn, errorAfter, passesBy, channelKept, channelAfter}
+use Rattle.channel.specs.Channels.{untouchedIn, channelsAfter}
 use Rattle.channel.specs.declared.Channel.{Channel}
 use Rattle.channel.specs.declared.Channels.{Channels}
 
@@ -81,3 +82,24 @@ pub all-three : (m : Context) (cs : Channels) {l r1 r2 : Channel}
     → _≡_ {A = Channels} (record { local = l; remote1 = r1; remote2 = r2 }) (channelsAfter m cs)
 unfolding channelsAfter
 all-three m cs e1 e2 e3 = rw (e1, e2, e3)
+
+-- ---- an event that is none of any channel's
+
+and-true : (b : Bool) → b && true ≡ b
+and-true true = refl
+and-true false = refl
+
+module _ (m : Context) (restarts : isRestart (m .input) ≡ false) (samples : isA kind.Sample (m .input) ≡ false) (reads : isA kind.Read (m .input) ≡ false) where
+  kept : (c : ChannelId) (was : Channel) → channelOnIn c m ≡ true → was ≡ channelAfter c m was
+  kept c was on = kept-is c m was refl (rw (restarts, samples, reads)) (sym on) (rw (and-true (was .high), and-true (was .low), and-true (was .therm)))
+
+pub left-alone : (m : Context) (cs : Channels) {b : Bool} → b ≡ untouchedIn m → b ≡ true → cs ≡ channelsAfter m cs
+left-alone m cs e t =
+    let i = m .input in
+    let h = both (not (isRestart i || (isA kind.Sample i || isA kind.Read i))) _ (sym e ∙ t) in
+    let n = neither (isRestart i) _ (not-true _ (h .0)) in
+    let k = neither (isA kind.Sample i) (isA kind.Read i) (n .1) in
+    let on = both (channelOnIn Local m) _ (h .1) in
+    let on2 = both (channelOnIn Remote1 m) (channelOnIn Remote2 m) (on .1) in
+    let stays = kept m (n .0) (k .0) (k .1) in
+    all-three m cs (stays Local (cs .local) (on .0)) (stays Remote1 (cs .remote1) (on2 .0)) (stays Remote2 (cs .remote2) (on2 .1))

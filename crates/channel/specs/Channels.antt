@@ -98,6 +98,12 @@ channelKept on was =
       error = was .error;
     }
 
+-- an event that is none of any channel's, while all of them are enabled: it leaves them, which is proved
+abbrev pub untouchedIn : Context → Bool
+untouchedIn m =
+    not (isRestart (m .input) || (isA kind.Sample (m .input) || isA kind.Read (m .input)))
+    && (channelOnIn Local m && (channelOnIn Remote1 m && channelOnIn Remote2 m))
+
 -- the three channels
 unfoldable pub channelsAfter : Context → Channels → Channels
 channelsAfter m cs =

@@ -9,7 +9,7 @@ use stored::Context;
 ghost use mathlib.Core.Path.{_≡_};
 ghost use Rattle.rules.specs.Targets.{tminOf};
 ghost use Rattle.channel.specs.Channels.{sampledIn, readingAfter, flagAtSample, channelOnIn, errorIn, errorAfter, passesBy};
-ghost use Rattle.channel.specs.Channels.{channelKept, channelAfter, channelsAfter, thermOf};
+ghost use Rattle.channel.specs.Channels.{channelKept, channelAfter, untouchedIn, channelsAfter, thermOf};
 
 // The last reading, the THERM latch and the run flag; then the high, low and THERM status bits, and the diode error.
 pub struct Channel {
@@ -145,10 +145,24 @@ fn channel_after(c: ChannelId, m: Context, was: Channel) -> Channel
     }
 }
 
+// An event that is none of any channel's, while all of them are enabled.
+fn untouched(m: Context) -> bool
+    ensures { λ b. ⌜ b ≡ untouchedIn m ⌝ }
+{
+    let none = !(input::is_restart(m.input)
+        | (input::is_a(Kind::Sample, m.input) | input::is_a(Kind::Read, m.input)));
+    none
+        & (is_on(ChannelId::Local, m)
+            & (is_on(ChannelId::Remote1, m) & is_on(ChannelId::Remote2, m)))
+}
+
 // The three channels.
 pub fn channels_after(m: Context, cs: Channels) -> Channels
     ensures { λ b. ⌜ b ≡ channelsAfter m cs ⌝ }
 {
+    if untouched(m) {
+        return cs;
+    }
     Channels {
         local: channel_after(ChannelId::Local, m, cs.local),
         remote1: channel_after(ChannelId::Remote1, m, cs.remote1),
