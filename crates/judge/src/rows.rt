@@ -88,9 +88,8 @@ const ROWS: [PlainRanges; 9] = [
 pub fn row_of(kind: u8) -> PlainRanges
     ensures { λ r. ⌜ r ≡ rowOf kind ⌝ }
 {
-    let at = kind as usize;
-    if at < 9 {
-        ROWS[at]
+    if (kind as u16) < event::KIND_COUNT {
+        ROWS[kind as usize]
     } else {
         PlainRanges {
             low: 0,
