@@ -35,13 +35,16 @@ run-fuel : (k k′ : ℕ) (s : List ℕ) (at line : ℕ) (c : Keeper) → length
 unfolding playedFrom
 run-fuel zero k′ s at line c h h′ = sym (run-end k′ s at line c (omega arith))
 run-fuel (suc k) zero s at line c h h′ = run-end (suc k) s at line c (omega arith)
-run-fuel (suc k) (suc k′) s at line c h h′ = go (leb (length s) at) refl (eventAt s at) refl (λ next c′ p. run-fuel k k′ s next (line + 4) c′ (omega arith) (omega arith))
+run-fuel (suc k) (suc k′) s at line c h h′ = go (leb (length s) at) refl (eventAt s at) refl
+    (λ next c′ p. run-fuel k k′ s next (line + 4) c′ (omega arith) (omega arith))
   where
     go : (t : Bool) → leb (length s) at ≡ t → (r : Reading) → r ≡ eventAt s at
         → ((next : ℕ) (c′ : Keeper) → at < next → playedFrom k s next (line + 4) c′ ≡ playedFrom k′ s next (line + 4) c′)
-        → cond t [] (linesBy r line c (λ next c′. playedFrom k s next (line + 4) c′)) ≡ cond t [] (linesBy r line c (λ next c′. playedFrom k′ s next (line + 4) c′))
+        → cond t [] (linesBy r line c (λ next c′. playedFrom k s next (line + 4) c′)) ≡ cond t []
+        (linesBy r line c (λ next c′. playedFrom k′ s next (line + 4) c′))
     go true e r q ih = refl
-    go false e (reading.Event v next) q ih = ap (λ (l : List ℕ). entryBy (outcomeOf c v) ++ l) (ih next (outcomeOf c v .keeper) (omega (arith, onward s at q refl)))
+    go false e (reading.Event v next) q ih = ap (λ (l : List ℕ). entryBy (outcomeOf c v) ++ l)
+        (ih next (outcomeOf c v .keeper) (omega (arith, onward s at q refl)))
     go false e (reading.Wrong i st) q ih = refl
 
 module _ (s : List ℕ) (at line : ℕ) (c : Keeper) (h : at < length s) {r : Reading} (q : r ≡ eventAt s at) where
@@ -52,15 +55,18 @@ module _ (s : List ℕ) (at line : ℕ) (c : Keeper) (h : at < length s) {r : Re
   pub run-wrong : {i st : ℕ} → r ≡ reading.Wrong i st → playedFrom (length s - at) s at line c ≡ malformedText (line + i)
   run-wrong e =
       let k : length s - at ≡ suc (length s - at - 1) = omega arith in
-      ap (λ (n : ℕ). playedFrom n s at line c) k ∙ one (length s - at - 1) ∙ ap (λ (x : Reading). linesBy x line c (λ next c′. playedFrom (length s - at - 1) s next (line + 4) c′)) e
+      ap (λ (n : ℕ). playedFrom n s at line c) k ∙ one (length s - at - 1) ∙ ap
+      (λ (x : Reading). linesBy x line c (λ next c′. playedFrom (length s - at - 1) s next (line + 4) c′)) e
 
   pub run-event : {e : Event} {next : ℕ} {o : Outcome} → r ≡ reading.Event e next → o ≡ outcomeOf c e
       → playedFrom (length s - at) s at line c ≡ entryBy o ++ playedFrom (length s - next) s next (line + 4) (o .keeper)
   run-event {e} {next} x ho =
       let k : length s - at ≡ suc (length s - at - 1) = omega arith in
       let o = onward s at q x in
-      rw ho (ap (λ (n : ℕ). playedFrom n s at line c) k ∙ one (length s - at - 1) ∙ ap (λ (x : Reading). linesBy x line c (λ next c′. playedFrom (length s - at - 1) s next (line + 4) c′)) x
-      ∙ ap (λ (l : List ℕ). entryBy (outcomeOf c e) ++ l) (run-fuel (length s - at - 1) (length s - next) s next (line + 4) (outcomeOf c e .keeper) (omega arith) (omega arith)))
+      rw ho (ap (λ (n : ℕ). playedFrom n s at line c) k ∙ one (length s - at - 1) ∙ ap
+      (λ (x : Reading). linesBy x line c (λ next c′. playedFrom (length s - at - 1) s next (line + 4) c′)) x
+      ∙ ap (λ (l : List ℕ). entryBy (outcomeOf c e) ++ l) (run-fuel (length s - at - 1) (length s - next) s next (line + 4) (outcomeOf c e .keeper)
+      (omega arith) (omega arith)))
 
 -- ---- the length, event by event: n is how long the report is before the text at `at`
 
@@ -70,7 +76,8 @@ module _ (s : List ℕ) (at line n : ℕ) (c : Keeper) (inv : length (playedOf s
       let z : length (playedFrom (length s - at) s at line c) ≡ 0 = ap length (run-end (length s - at) s at line c h) in
       omega arith
 
-  pub len-wrong : {r : Reading} {i st w : ℕ} → at < length s → r ≡ eventAt s at → r ≡ reading.Wrong i st → w ≡ length (malformedText (line + i)) → n + w ≡ length (playedOf s)
+  pub len-wrong : {r : Reading} {i st w : ℕ} → at < length s → r ≡ eventAt s at → r ≡ reading.Wrong i st → w ≡ length (malformedText (line + i))
+      → n + w ≡ length (playedOf s)
   len-wrong {r} {i} {st} h q e hw =
       let z : length (playedFrom (length s - at) s at line c) ≡ length (malformedText (line + i)) = ap length (run-wrong s at line c h q e) in
       omega arith

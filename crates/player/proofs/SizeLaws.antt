@@ -23,7 +23,7 @@ use Rattle.trace.specs.declared.Reading.{Reading}
 use Rattle.trace.specs.declared.Reading.the-variants as reading
 use Rattle.trace.proofs.Onward.{onward, wrong-place}
 use Rattle.report.specs.Report.{entryText}
-use Rattle.measure.proofs.Laws.{reply-length, pin-length, duty-length, entry-length, malformed-length}
+use Rattle.report.proofs.LengthLaws.{reply-length, pin-length, duty-length, entry-length, malformed-length}
 use Rattle.rules.specs.Replies.{History, taken, replyTo, accepts}
 use Rattle.rules.specs.Stored.{pointer}
 use Rattle.rules.specs.Temperatures.{thermAsserted}

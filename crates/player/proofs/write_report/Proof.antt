@@ -7,7 +7,8 @@ use lib.ListN.{length, take}
 use lib.Seq.{sets}
 use Rattle.player.specs.Played.{playedFrom, playedOf}
 use Rattle.player.proofs.PlayedLaws.{next-within, next-less, next-line}
-use Rattle.player.proofs.GrowLaws.{write-start, write-end-at, write-end-held, wrong-end-at, wrong-end-held, event-inv, event-held, event-same, event-within}
+use Rattle.player.proofs.GrowLaws.{write-start, write-end-at, write-end-held, wrong-end-at, wrong-end-held, event-inv, event-held, event-same}
+use Rattle.player.proofs.GrowLaws.{event-within}
 use Rattle.player.proofs.write_report.Statement.{statement}
 use Rattle.player.proofs.write_report.Tie as tie
 
