@@ -4,6 +4,7 @@
 use compare::{events, traces};
 use second::keeper::{Event, Keeper, Reply};
 use std::hint::black_box;
+use std::io::Write;
 use std::time::Instant;
 
 const ROUNDS: usize = 15;
@@ -120,7 +121,22 @@ fn measure(size: usize) {
     );
 }
 
+/// With `--trace SIZE` only the guided trace of a size, on standard output: what tests/instructions counts.
 fn main() {
+    let words: Vec<String> = std::env::args().skip(1).collect();
+    match words.as_slice() {
+        [] => measure_all(),
+        [word, size] if word == "--trace" => print_trace(size.parse().expect("a size in bytes")),
+        _ => panic!("bench, or bench --trace SIZE"),
+    }
+}
+
+fn print_trace(size: usize) {
+    let written = std::io::stdout().write_all(&text_of(size));
+    written.expect("standard output takes the trace");
+}
+
+fn measure_all() {
     println!("        whole replay                                      engine alone");
     println!(
         "  bytes   ns/event ns/event 2   MB/s text MB/s text 2  ratio   ns/event ns/event 2  ratio"
