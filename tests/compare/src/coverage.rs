@@ -15,7 +15,8 @@ pub struct Coverage {
 }
 
 impl Coverage {
-    pub fn new() -> Coverage {
+    /// Nothing seen yet.
+    pub fn none() -> Coverage {
         Coverage {
             traces: 0,
             events: 0,
@@ -120,7 +121,7 @@ mod tests {
 
     #[test]
     fn counts_what_a_report_holds() {
-        let mut coverage = Coverage::new();
+        let mut coverage = Coverage::none();
         coverage.count(
             b"answer=0\ndata=0\nint=1\ntherm=0\nfault=0\nduty1=240\nduty2=17\nanswer=10\nline=5\n",
         );
@@ -132,6 +133,6 @@ mod tests {
 
     #[test]
     fn nothing_reached_is_missing() {
-        assert_eq!(Coverage::new().missing().len(), 16);
+        assert_eq!(Coverage::none().missing().len(), 16);
     }
 }

@@ -20,12 +20,12 @@ pub type Image = (u8, Vec<u8>);
 /// How many events an image is taken after, and how long its buffer is: a little more than an image, or less.
 fn image_case(events: usize, index: u64) -> (usize, usize) {
     let index = index as usize;
-    let count = if index % WHOLE == 0 {
+    let count = if index.is_multiple_of(WHOLE) {
         events
     } else {
         index % (events.min(MOST_EVENTS) + 1)
     };
-    let length = if index % 11 == 0 {
+    let length = if index.is_multiple_of(11) {
         index % IMAGE_LENGTH
     } else {
         IMAGE_LENGTH + index % 3
@@ -37,7 +37,7 @@ fn image_case(events: usize, index: u64) -> (usize, usize) {
 pub fn proved_image(events: &[Event], index: u64) -> Image {
     let (count, length) = image_case(events.len(), index);
     let mut taken = events[..count].to_vec();
-    if index % 13 == 0 {
+    if index.is_multiple_of(13) {
         taken.push([9 + index as i32 % 5, 0, 0, 0]);
     }
     let mut buffer = vec![0xaa; length];
@@ -48,7 +48,7 @@ pub fn proved_image(events: &[Event], index: u64) -> Image {
 pub fn second_image(events: &[Event], index: u64) -> Image {
     let (count, length) = image_case(events.len(), index);
     let mut buffer = vec![0xaa; length];
-    if index % 13 == 0 {
+    if index.is_multiple_of(13) {
         return (10, buffer);
     }
     let mut keeper = Keeper::new();
@@ -60,7 +60,7 @@ pub fn second_image(events: &[Event], index: u64) -> Image {
 
 /// The part of a text that is copied, or searched for a wrong line.
 pub fn some_text(text: &[u8], index: u64) -> &[u8] {
-    if index % WHOLE as u64 == 0 {
+    if index.is_multiple_of(WHOLE as u64) {
         text
     } else {
         &text[..text.len().min(MOST_TEXT)]
@@ -71,7 +71,11 @@ pub fn some_text(text: &[u8], index: u64) -> &[u8] {
 fn copy_case(text: &[u8], index: u64) -> (&[u8], usize) {
     let part = some_text(text, index);
     let index = index as usize;
-    let less = if index % 3 == 0 { index % 200 } else { 0 };
+    let less = if index.is_multiple_of(3) {
+        index % 200
+    } else {
+        0
+    };
     (part, part.len().saturating_sub(less))
 }
 

@@ -83,7 +83,7 @@ struct Finding {
 impl Finding {
     fn nothing() -> Self {
         Finding {
-            coverage: Coverage::new(),
+            coverage: Coverage::none(),
             engine_traces: 0,
             images: [0; images::NUMBERS.len()],
             whole_copies: 0,
