@@ -28,7 +28,8 @@ use Rattle.trace.specs.declared.Field.the-variants as field
 use Rattle.trace.specs.declared.Reading.{Reading}
 use Rattle.trace.specs.declared.Reading.the-variants as reading
 use Rattle.trace.specs.Words.{kindText, whoName, argName, valName, kindIn, kindNamed, namedBy, kindLine}
-use Rattle.trace.specs.Trace.{numberNamed, givenBy, numberLine, afterVal, afterArg, afterWho, afterKind, eventAt, ended, numberText, numbersText, eventText}
+use Rattle.trace.specs.Trace.{numberNamed, givenBy, numberLine, afterVal, afterArg, afterWho, afterKind, eventAt}
+use Rattle.trace.specs.Trace.{ended, numberText, numbersText, eventText}
 use Rattle.trace.proofs.Lines.{either}
 
 -- ---- what names a kind, or gives a number, is its text
@@ -97,7 +98,8 @@ module _ (s : List ℕ) where
   number-stands name at =
       either givenBy field.Wrong (numberNamed name) s at (FieldStands name at) tt (λ next l h h′ e. given next l (numberNamed name l) h e refl)
     where
-      given : (next : ℕ) (l : List ℕ) (d : Decimal) → at < next → take (next - at) (drop at s) ≡ ended l → numberNamed name l ≡ d → FieldStands name at (givenBy next d)
+      given : (next : ℕ) (l : List ℕ) (d : Decimal) → at < next → take (next - at) (drop at s) ≡ ended l → numberNamed name l ≡ d
+          → FieldStands name at (givenBy next d)
       given next l (Number z) h e q = (omega arith, e ∙ ap ended (given-only name l q))
       given next l Malformed h e q = tt
 
@@ -129,7 +131,8 @@ module _ (s : List ℕ) where
       arg : (at1 at2 : ℕ) (k : Kind) (who : ℤ) → Stands at at1 (ended (kindText k)) → Stands at1 at2 (numberText whoName who)
           → (f : Field) → FieldStands argName at2 f → ReadingStands at (afterArg s at2 k who f)
       arg at1 at2 k who p q (field.Number a next) r =
-          val at1 next k who a p (joined at1 at2 next (numberText whoName who) (numberText argName a) q r) (numberLine valName s next) (number-stands valName next)
+          let t = joined at1 at2 next (numberText whoName who) (numberText argName a) q r in
+          val at1 next k who a p t (numberLine valName s next) (number-stands valName next)
       arg at1 at2 k who p q field.Wrong r = tt
 
       who : (at1 : ℕ) (k : Kind) → Stands at at1 (ended (kindText k)) → (f : Field) → FieldStands whoName at1 f → ReadingStands at (afterWho s at1 k f)

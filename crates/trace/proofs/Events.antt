@@ -39,6 +39,7 @@ module _ (s : List ℕ) (at : ℕ) {n : Named} (e : n ≡ kindLine s at) where
         wrong-val h3 = rw (← e, h, ← e1, h1, ← e2, h2, ← e3, h3)
 
         pub four-lines : {val : ℤ} {next : ℕ} {r : Event} → f3 ≡ field.Number val next → SFits w32 who → SFits w32 arg → SFits w32 val
-            → r ≡ eventOf k (record { who = toZ w32 (ofZ w32 who); arg = toZ w32 (ofZ w32 arg); val = toZ w32 (ofZ w32 val) }) → reading.Event r next ≡ eventAt s at
+            → r ≡ eventOf k (record { who = toZ w32 (ofZ w32 who); arg = toZ w32 (ofZ w32 arg); val = toZ w32 (ofZ w32 val) })
+            → reading.Event r next ≡ eventAt s at
         unfolding eventAt
         four-lines {val} h3 s1 s2 s3 q = rw (← e, h, ← e1, h1, ← e2, h2, ← e3, h3, q, toZ-ofZ w32 who s1, toZ-ofZ w32 arg s2, toZ-ofZ w32 val s3)

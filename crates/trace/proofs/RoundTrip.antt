@@ -78,7 +78,8 @@ module _ (text : List ℕ) (at : ℕ) (after : List ℕ) where
       → numberLine name text at ≡ field.Number z (at + length (ended (name ++ textOf z)))
   unfolding numberLine
   number-line name z c f stands =
-      line-back text at (name ++ textOf z) after stands givenBy field.Wrong (numberNamed name) (clean-append name (textOf z) c (no-newline z)) ∙ rw (value-back name z f)
+      line-back text at (name ++ textOf z) after stands givenBy field.Wrong (numberNamed name) (clean-append name (textOf z) c (no-newline z))
+      ∙ rw (value-back name z f)
 
 four : (a b c d after : List ℕ) → (a ++ (b ++ (c ++ d))) ++ after ≡ a ++ (b ++ (c ++ (d ++ after)))
 four a b c d after = simp append-assoc
@@ -88,7 +89,8 @@ four-lengths a b c d = simp length-append
 
 -- an event whose text stands at an index is read there, and the next one starts behind it
 pub read-back : (text : List ℕ) (at : ℕ) (e : Event) (after : List ℕ) → drop at text ≡ eventText e ++ after
-    → SFits w32 (numbersOf e .who) → SFits w32 (numbersOf e .arg) → SFits w32 (numbersOf e .val) → eventAt text at ≡ reading.Event e (at + length (eventText e))
+    → SFits w32 (numbersOf e .who) → SFits w32 (numbersOf e .arg) → SFits w32 (numbersOf e .val)
+    → eventAt text at ≡ reading.Event e (at + length (eventText e))
 unfolding eventAt eventText numbersText numberText
 read-back text at e after stands f f′ f″ =
     let kind : List ℕ = kindText (kindOf e) in

@@ -1,23 +1,21 @@
 -- Laws of the table of kinds and of the lines that name a kind, in `specs/Words.antt`. Assumes nothing.
 use Prim.Native.Nat.{ℕ, _+_, _-_, _*_, _≤_, _<_}
 use mathlib.Core.Path.{_≡_, refl, sym, ap, _∙_}
-use mathlib.Core.Bool.{Bool, true, false, cond, _&&_}
+use mathlib.Core.Bool.{Bool, true, false, _&&_}
 use mathlib.Core.List.{List, _++_}
 use native.Mathlib.Omega.{arith}
 use borrow.Author.Count.{below-more}
 use borrow.Author.Needs.{needs}
-use borrow.Author.Tests.{eq-eqb, eqb-true, leb-true, leb-false}
-use lib.Dec.{leb, eqb}
+use borrow.Author.Tests.{eqb-true, leb-true, leb-false, ltb-true, ltb-false}
+use lib.Dec.{leb, ltb, eqb}
 use lib.ListN.{length, getD, take, drop, length-append, length-drop, take-append-drop}
 use lib.Seq.{getD-drop}
 use Rattle.integer.proofs.BoolLaws.{both}
 use Rattle.event.specs.declared.Kind.{Kind}
 use Rattle.event.specs.Kinds.{kinds, kindAt, placeOf}
-use Rattle.event.proofs.Laws.{Each, every-kind, passes, passed, kind-back, place-small}
+use Rattle.event.proofs.Laws.{Each, every-kind, at-place, passes, passed, kind-back, place-small}
 use Rattle.line.specs.Line.{sameBytes, firstLine, lineAt, endAt}
 use Rattle.line.proofs.Bytes.{same-then}
-use Rattle.trace.specs.declared.Word.{Word}
-use Rattle.trace.specs.declared.Word.the-variants.{Known, Unknown}
 use Rattle.trace.specs.declared.Named.{Named}
 use Rattle.trace.specs.declared.Named.the-variants as named
 use Rattle.trace.specs.Words.{kindText, kindTable, kindLine}
@@ -39,88 +37,83 @@ slots = refl
 pub slot-line : (p : ℕ) → p < length kinds → lineAt kindTable (12 * p) ≡ kindText (kindAt p)
 slot-line p h = same-then (lineAt kindTable (12 * p)) (kindText (kindAt p)) (passed inSlot (length kinds) slots p h)
 
--- ---- the byte behind the first eight, by which the kinds are told apart
-
-abbrev ninth : ℕ → ℕ
-ninth p = getD kindTable (12 * p + 8) 0
-
-apart : ℕ → ℕ → Bool
-apart p q = cond (eqb (ninth p) (ninth q)) (eqb p q) true
-
-aparts : passes (λ p. passes (apart p) (length kinds)) (length kinds) ≡ true
-unfolding passes apart kindTable
-aparts = refl
-
-one-place : (p q : ℕ) → p < length kinds → q < length kinds → ninth p ≡ ninth q → p ≡ q
-unfolding apart
-one-place p q hp hq e =
-    let t = passed (apart p) (length kinds) (passed (λ p. passes (apart p) (length kinds)) (length kinds) aparts p hp) q hq in
-    eqb-true p q (rw (eq-eqb (ninth p) (ninth q) e) at t)
-
--- what the search of it answers
-module _ (b place : ℕ) (table : List ℕ) (ht : table ≡ kindTable) where
-  pub kind-found : {k : Kind} → place < length kinds → getD table (12 * place + 8) 0 ≡ b → k ≡ kindAt place
-      → (p : ℕ) → p < length kinds → ninth p ≡ b → Known k ≡ Known (kindAt p)
-  kind-found h e hk p hp q = let s : p ≡ place = one-place p place hp h (q ∙ sym e ∙ ap (λ (t : List ℕ). getD t (12 * place + 8) 0) ht) in rw (hk, s)
-
-  module _ (inv : (p : ℕ) → p < place → ninth p ≡ b → ⊥) where
-    pub kind-passed : (getD table (12 * place + 8) 0 ≡ b → ⊥) → (p : ℕ) → p < place + 1 → ninth p ≡ b → ⊥
-    kind-passed n = below-more (λ p. ninth p ≡ b → ⊥) place inv (rw ht at n)
-
-    pub kind-nowhere : length kinds ≤ place → (p : ℕ) → p < length kinds → ninth p ≡ b → Unknown ≡ Known (kindAt p)
-    kind-nowhere h p hp q = absurd (inv p (omega arith) q)
-
 -- ---- a kind's line in the table, with its newline
 
--- it starts at `start`, and ends where a newline is found behind its first eight bytes
+abbrev lineOf : ℕ → List ℕ
+lineOf p = ended (kindText (kindAt p))
+
+-- a slice of so many bytes
+abbrev bytesAt : List ℕ → (start n : ℕ) → List ℕ
+bytesAt table start n = take (start + n - start) (drop start table)
+
+-- it stands at the start of its slot, within the table, and ends where a newline is found behind its first eight bytes
 rowOf : ℕ → Bool
 rowOf p =
-    let start : ℕ = 12 * p in
-    let end : ℕ = endAt kindTable (start + 8) + 1 in
-    sameBytes (take (end - start) (drop start kindTable)) (ended (kindText (kindAt p))) && (leb (start + 9) end && leb end 108)
+    let end : ℕ = 12 * p + length (lineOf p) in
+    sameBytes (take (length (lineOf p)) (drop (12 * p) kindTable)) (lineOf p) && (eqb (endAt kindTable (12 * p + 8) + 1) end && leb end (12 * length kinds))
 
 rows : passes rowOf (length kinds) ≡ true
 unfolding passes rowOf kindTable endAt lineAt firstLine sameBytes
 rows = refl
 
-module _ (k : Kind) {q e : ℕ} (table : List ℕ) (ht : table ≡ kindTable) (hq : q ≡ placeOf k) (he : e ≡ endAt table (12 * q + 8)) where
-  row : (take (e + 1 - 12 * q) (drop (12 * q) table) ≡ ended (kindText k)) × (12 * q + 9 ≤ e + 1) × (e + 1 ≤ 108)
+module _ (p : ℕ) (h : p < length kinds) (table : List ℕ) (ht : table ≡ kindTable) where
+  row : (take (length (lineOf p)) (drop (12 * p) table) ≡ lineOf p)
+      × (endAt table (12 * p + 8) + 1 ≡ 12 * p + length (lineOf p))
+      × (12 * p + length (lineOf p) ≤ 12 * length kinds)
   unfolding rowOf
   row =
-      let start : ℕ = 12 * placeOf k in
-      let end : ℕ = endAt kindTable (start + 8) + 1 in
-      let bytes : List ℕ = take (end - start) (drop start kindTable) in
-      let p = rw (kind-back k) at (passed rowOf (length kinds) rows (placeOf k) (place-small k)) in
-      let t = both (sameBytes bytes (ended (kindText k))) (leb (start + 9) end && leb end 108) p in
-      let u = both (leb (start + 9) end) (leb end 108) (t .1) in
-      rw (he, ht, hq) (
-        same-then bytes (ended (kindText k)) (t .0),
-        leb-true (start + 9) end (u .0),
-        leb-true end 108 (u .1),
-      )
+      let bytes : List ℕ = take (length (lineOf p)) (drop (12 * p) kindTable) in
+      let next : ℕ = endAt kindTable (12 * p + 8) + 1 in
+      let end : ℕ = 12 * p + length (lineOf p) in
+      let t = both (sameBytes bytes (lineOf p)) (eqb next end && leb end (12 * length kinds)) (passed rowOf (length kinds) rows p h) in
+      let u = both (eqb next end) (leb end (12 * length kinds)) (t .1) in
+      rw ht (same-then bytes (lineOf p) (t .0), eqb-true next end (u .0), leb-true end (12 * length kinds) (u .1))
 
-  pub row-is : take (e + 1 - 12 * q) (drop (12 * q) table) ≡ ended (kindText k)
-  row-is = row .0
+  -- where it ends, and so how long it is
+  module _ {e : ℕ} (he : e ≡ endAt table (12 * p + 8)) where
+    pub row-start : 12 * p ≤ e + 1
+    row-start = omega (arith, row .1, he)
 
-  pub row-start : 12 * q ≤ e + 1
-  row-start = omega (arith, row .1)
+    pub row-fits : {m : ℕ} → 12 * length kinds < m → e + 1 < m
+    row-fits l = omega (arith, row .1, row .2, he)
 
-  pub row-end : e + 1 ≤ length table
-  unfolding kindTable
-  row-end = rw ht (row .2)
+    pub row-length : e + 1 - 12 * p ≡ length (lineOf p)
+    row-length = omega (arith, row .1, he)
 
-  pub row-fits : {m : ℕ} → 108 < m → e + 1 < m
-  row-fits l = omega (arith, row .2)
+  -- its bytes
+  module _ {n : ℕ} (hn : n ≡ length (lineOf p)) where
+    pub row-end : 12 * p + n ≤ length table
+    unfolding kindTable
+    row-end = rw (ht, hn) (row .2)
 
--- ---- a kind's line in the text
+    pub bytes-fit : {m : ℕ} → 12 * length kinds < m → 12 * p + n < m
+    bytes-fit l = omega (arith, row .2, hn)
 
--- whatever follows it, its ninth byte is that of the table
-Ninth : Kind → Type 0
-Ninth k = (after : List ℕ) → getD (ended (kindText k) ++ after) 8 0 ≡ ninth (placeOf k)
+    row-is : bytesAt table (12 * p) n ≡ lineOf p
+    row-is = let q : 12 * p + length (lineOf p) - 12 * p ≡ length (lineOf p) = omega arith in rw (hn, q) (row .0)
 
-ninths : Each (λ p. Ninth (kindAt p)) (length kinds)
+-- ---- the byte behind its first eight
+
+abbrev pub ninth : ℕ → ℕ
+ninth p = getD kindTable (12 * p + 8) 0
+
+-- no line from one place up to another has it
+abbrev pub Lacking : (b from to : ℕ) → Type 0
+Lacking b from to = (p : ℕ) → from ≤ p → p < to → ninth p ≡ b → ⊥
+
+pub lacking-more : (b from place : ℕ) {table : List ℕ} → table ≡ kindTable → (getD table (12 * place + 8) 0 ≡ b → ⊥) → Lacking b from place
+    → Lacking b from (place + 1)
+lacking-more b from place ht n inv p h l = below-more (λ p. from ≤ p → ninth p ≡ b → ⊥) place (λ p l h. inv p h l) (λ h. rw ht at n) p l h
+
+-- whatever follows the line, it is that of the table
+Ninth : ℕ → Type 0
+Ninth p = (after : List ℕ) → getD (lineOf p ++ after) 8 0 ≡ ninth p
+
+ninths : Each Ninth (length kinds)
 unfolding Ninth kindTable
 ninths = search needs
+
+-- ---- a kind's line in the text
 
 -- kind= and a word: the shortest is pin
 Long : Kind → Type 0
@@ -145,30 +138,47 @@ module _ (s : List ℕ) (at : ℕ) where
           absurd (bad k rest (sym (take-append-drop (next - at) (drop at s)) ∙ ap (λ (l : List ℕ). l ++ rest) (h .1)))
       go named.Wrong h = refl
 
-  -- where a kind's line stands, its ninth byte tells it
-  pub guess-short : {t : Bool} → t ≡ leb (at + 9) (length s) → t ≡ false
-      → (k : Kind) (after : List ℕ) → drop at s ≡ ended (kindText k) ++ after → Unknown ≡ Known k
-  guess-short e h k after q =
+  pub kind-short : {t : Bool} → t ≡ leb (at + 9) (length s) → t ≡ false → named.Wrong ≡ kindLine s at
+  kind-short e h =
       let n : length s < at + 9 = leb-false (at + 9) (length s) (sym e ∙ h) in
-      absurd (omega (arith, kind-long k, simp (length-append, length-drop) at (ap length q)))
+      none (λ k after q. absurd (omega (arith, kind-long k, simp (length-append, length-drop) at (ap length q))))
 
-  pub guess-by : {w : Word} → ((p : ℕ) → p < length kinds → ninth p ≡ getD s (at + 8) 0 → w ≡ Known (kindAt p))
-      → (k : Kind) (after : List ℕ) → drop at s ≡ ended (kindText k) ++ after → w ≡ Known k
+  -- the line of no kind before a place stands there
+  abbrev pub Passed : (place : ℕ) → Type 0
+  Passed place = (p : ℕ) → p < place → (after : List ℕ) → drop at s ≡ lineOf p ++ after → ⊥
+
+  pub kind-nowhere : (place : ℕ) → Passed place → length kinds ≤ place → named.Wrong ≡ kindLine s at
+  kind-nowhere place before h = none (λ k after q. before (placeOf k) (omega (arith, place-small k)) after (rw (kind-back k) q))
+
+  -- nor of one from there on with another byte behind its first eight
+  other-bytes : (place : ℕ) → Passed place → {to : ℕ} → to ≤ length kinds → Lacking (getD s (at + 8) 0) place to → Passed to
   unfolding Ninth
-  guess-by by k after q =
-      let b : getD (drop at s) 8 0 ≡ ninth (placeOf k) = rw q (every-kind Ninth ninths k after) in
-      by (placeOf k) (place-small k) (sym b ∙ getD-drop at s 8 0) ∙ ap Known (kind-back k)
+  other-bytes place before m lacking p h after q = go (ltb p place) refl
+    where
+      go : (t : Bool) → ltb p place ≡ t → ⊥
+      go true e = before p (ltb-true p place e) after q
+      go false e =
+          let b : getD (drop at s) 8 0 ≡ ninth p = rw q (at-place Ninth (length kinds) ninths p (omega arith) after) in
+          lacking p (ltb-false p place e) h (sym b ∙ getD-drop at s 8 0)
 
-  module _ {w : Word} (told : (k : Kind) (after : List ℕ) → drop at s ≡ ended (kindText k) ++ after → w ≡ Known k) where
-    pub kind-unknown : w ≡ Unknown → named.Wrong ≡ kindLine s at
-    kind-unknown h = none (λ k after q. let t = told k after q in let z : _≡_ {A = ℕ} 0 1 = cc in omega arith)
+  pub first-passed : {to : ℕ} → to ≤ length kinds → Lacking (getD s (at + 8) 0) 0 to → Passed to
+  first-passed = other-bytes 0 (λ p h. absurd (omega arith))
 
-    module _ {k : Kind} (h : w ≡ Known k) {b : List ℕ} (hb : b ≡ ended (kindText k)) {r : Bool} (e : r ≡ sameBytes (take (length b) (drop at s)) b) where
-      pub kind-other : r ≡ false → named.Wrong ≡ kindLine s at
-      kind-other f = none (λ j after q. let t = told j after q in let o : j ≡ k = cc in stands-not b s at e f after (q ∙ rw (o, hb)))
+  -- the line at a place, compared with the text there
+  module _ (place : ℕ) {n : ℕ} {table : List ℕ} {r : Bool} (h : place < length kinds) (ht : table ≡ kindTable) (hn : n ≡ length (lineOf place))
+      (e : r ≡ sameBytes (take (length (bytesAt table (12 * place) n)) (drop at s)) (bytesAt table (12 * place) n)) where
+    compared : r ≡ sameBytes (take (length (lineOf place)) (drop at s)) (lineOf place)
+    compared = rw (row-is place h table ht hn) at e
 
-      pub kind-known : {n : ℕ} → n ≡ length b → r ≡ true → named.Kind k (at + n) ≡ kindLine s at
-      kind-known hn y = rw (hn, hb) (sym (kind-line s at (drop (length (ended (kindText k))) (drop at s)) k (rw hb at (stands-then b s at e y))))
+    pub next-passed : r ≡ false → Passed place → {to : ℕ} → to ≤ length kinds → Lacking (getD s (at + 8) 0) (place + 1) to → Passed to
+    next-passed f before =
+        let other = stands-not (lineOf place) s at compared f in
+        other-bytes (place + 1) (below-more (λ p. (after : List ℕ) → drop at s ≡ lineOf p ++ after → ⊥) place before other)
 
-      pub kind-fits : {n m : ℕ} → n ≡ length b → r ≡ true → at < m → length s < m → at + n < m
-      kind-fits hn y p q = rw hn (stands-fits b s at e y p q)
+    pub kind-found : {k : Kind} → r ≡ true → k ≡ kindAt place → named.Kind k (at + n) ≡ kindLine s at
+    kind-found y hk =
+        let rest : List ℕ = drop (length (lineOf place)) (drop at s) in
+        rw (hk, hn) (sym (kind-line s at rest (kindAt place) (stands-then (lineOf place) s at compared y)))
+
+    pub kind-fits : {m : ℕ} → r ≡ true → at < m → length s < m → at + n < m
+    kind-fits y p q = rw hn (stands-fits (lineOf place) s at compared y p q)

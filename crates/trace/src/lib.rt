@@ -7,13 +7,12 @@ use event::Numbers;
 use line::line_end;
 use line::same;
 ghost use mathlib.Core.Path.{_≡_};
-ghost use mathlib.Core.List.{List, [], _++_};
+ghost use mathlib.Core.List.{[]};
 ghost use mathlib.Core.Bool.{_&&_};
-ghost use Prim.Native.Nat.{ℕ, _+_, _*_, _<_};
+ghost use Prim.Native.Nat.{ℕ, _+_, _*_, _≤_, _<_};
 ghost use lib.Dec.{leb, eqb};
 ghost use lib.ListN.{length, getD, take, drop};
-ghost use Rattle.event.specs.declared.Kind.{Kind};
-ghost use Rattle.event.specs.Kinds.{kindAt};
+ghost use Rattle.event.specs.Kinds.{kinds, kindAt};
 ghost use Rattle.line.specs.Line.{sameBytes, firstLine};
 ghost use Rattle.trace.specs.Words.{kindText, kindTable, kindLine};
 ghost use Rattle.trace.specs.Trace.{numberLine, eventAt, ended};
@@ -72,49 +71,52 @@ fn stands(bytes: &[u8], text: &[u8], at: usize) -> bool
     }
 }
 
-// The kind whose line has this byte behind its first eight. No two lines have the same byte there.
-fn kind_by(b: u8) -> Word
-    ensures { λ r. ⌜ ((p : ℕ) → p < 9 → getD kindTable (12 * p + 8) 0 ≡ b → r ≡ Word.Known (kindAt p)) ⌝ }
+// The length of the line of the kind at a place, with its newline, which stands behind its first eight bytes.
+fn line_length(place: u16) -> usize
+    requires { ⌜ place < length kinds ⌝ }
+    ensures { λ r. ⌜ r ≡ length (ended (kindText (kindAt place))) ⌝ }
 {
     let table = kind_table();
-    let mut place: u16 = 0;
+    let start = 12 * place as usize;
+    line_end(&table, start + 8) + 1 - start
+}
+
+// The first place from `from` on whose line has this byte behind its first eight; the number of kinds if none has.
+fn place_by(b: u8, from: u16) -> u16
+    requires { ⌜ from ≤ length kinds ⌝ }
+    ensures { λ r. ⌜ (from ≤ r) × (r ≤ length kinds) × ((p : ℕ) → from ≤ p → p < r → getD kindTable (12 * p + 8) 0 ≡ b → ⊥) ⌝ }
+{
+    let table = kind_table();
+    let mut place = from;
     while place < event::KIND_COUNT {
         if table[12 * place as usize + 8] == b {
-            return Word::Known(event::kind_at(place));
+            return place;
         }
         place += 1;
     }
-    Word::Unknown
+    place
 }
 
-// The only kind whose line can stand at an index. The shortest line is kind=pin and its newline.
-fn kind_guess(text: &[u8], at: usize) -> Word
-    ensures { λ r. ⌜ ((k : Kind) (after : List ℕ) → drop at (now (text .entry)) ≡ ended (kindText k) ++ after → r ≡ Word.Known k) ⌝ }
-{
-    if reaches(text, at, 9) {
-        kind_by(text[at + 8])
-    } else {
-        Word::Unknown
-    }
-}
-
-// The line at `at` as a kind, ended by a newline.
+// The line at `at` as a kind, ended by a newline. The shortest is kind=pin and its newline.
+// Only a line with the same byte behind its first eight is compared as a whole.
 fn kind_line(text: &[u8], at: usize) -> Named
     ensures { λ r. ⌜ r ≡ kindLine (now (text .entry)) at ⌝ }
 {
-    let word = kind_guess(text, at);
-    let Word::Known(k) = word else {
+    if !reaches(text, at, 9) {
         return Named::Wrong;
-    };
-    let table = kind_table();
-    let start = 12 * event::place_of(k) as usize;
-    // with its newline, which stands behind its first eight bytes
-    let end = line_end(&table, start + 8) + 1;
-    if stands(&table[start..end], text, at) {
-        Named::Kind(k, at + (end - start))
-    } else {
-        Named::Wrong
     }
+    let table = kind_table();
+    let b = text[at + 8];
+    let mut place = place_by(b, 0);
+    while place < event::KIND_COUNT {
+        let start = 12 * place as usize;
+        let n = line_length(place);
+        if stands(&table[start..start + n], text, at) {
+            return Named::Kind(event::kind_at(place), at + n);
+        }
+        place = place_by(b, place + 1);
+    }
+    Named::Wrong
 }
 
 // Whether these two bytes are a digit and a newline.

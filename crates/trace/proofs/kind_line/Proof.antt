@@ -1,89 +1,115 @@
-use Rattle.trace.proofs.Words.{row-is, row-start, row-end, row-fits, kind-unknown, kind-other, kind-known, kind-fits}
+use Prim.Native.Nat.{_-_, _≤_}
+use native.Mathlib.Omega.{arith}
 use borrow.Author.Needs.{needs}
+use borrow.Author.Tests.{not-true, not-false}
+use lib.ListN.{length}
+use Rattle.event.specs.Kinds.{kinds}
+use Rattle.trace.proofs.Places.{reached-byte, byte-fits}
+use Rattle.trace.proofs.Words.{row-end, bytes-fit, Passed, kind-short, kind-nowhere, first-passed, next-passed, kind-found, kind-fits}
 use Rattle.trace.proofs.kind_line.Statement.{statement}
 use Rattle.trace.proofs.kind_line.Tie as tie
 
-kind-guess-requires : tie.Need-kind-guess-requires
-kind-guess-requires c κs = search needs
+abbrev Inv-loop : tie.InvT-loop
+Inv-loop text at table b place₀ place = (place ≤ length kinds) × Passed text at place
 
-enum-known-word : tie.Need-enum-known-word
-enum-known-word c = search needs
+abbrev μ-loop : tie.MeasureT-loop
+μ-loop text at table b place₀ place = length kinds - place
 
-enum-told : tie.Need-enum-told
-enum-told c = search needs
+reaches-requires : tie.Need-reaches-requires Inv-loop μ-loop
+reaches-requires c κs = search needs
 
-returns : tie.Need-returns
-returns c = search kind-unknown
+returns : tie.Need-returns Inv-loop μ-loop
+returns c = search (kind-short, not-true)
 
-kind-table-requires : tie.Need-kind-table-requires
+kind-table-requires : tie.Need-kind-table-requires Inv-loop μ-loop
 kind-table-requires c κs = search needs
 
-place-of-requires : tie.Need-place-of-requires
-place-of-requires c κs = search needs
+add-b : tie.Need-add-b Inv-loop μ-loop
+add-b c = search (byte-fits, not-false, needs)
 
-cast-start : tie.Need-cast-start
+shared-slice-read-b : tie.Need-shared-slice-read-b Inv-loop μ-loop
+shared-slice-read-b c = search (reached-byte, not-false, needs)
+
+place-by-requires : tie.Need-place-by-requires Inv-loop μ-loop
+place-by-requires c κs = search needs
+
+loop-holds : tie.Need-loop-holds Inv-loop μ-loop
+loop-holds c = (search needs, search first-passed)
+
+cast-start : tie.Need-cast-start Inv-loop μ-loop
 cast-start c = search needs
 
-mul-start : tie.Need-mul-start
+mul-start : tie.Need-mul-start Inv-loop μ-loop
 mul-start c = search needs
 
-slice-aggregate-line-end : tie.Need-slice-aggregate-line-end
-slice-aggregate-line-end c = search needs
+line-length-requires : tie.Need-line-length-requires Inv-loop μ-loop
+line-length-requires c κs = search needs
 
-add-line-end : tie.Need-add-line-end
-add-line-end c = search needs
+add-stands : tie.Need-add-stands Inv-loop μ-loop
+add-stands c = search (bytes-fit, needs)
 
-line-end-requires : tie.Need-line-end-requires
-line-end-requires c κs = search needs
+sub-stands : tie.Need-sub-stands Inv-loop μ-loop
+sub-stands c = search needs
 
-add-end : tie.Need-add-end
-add-end c = search (row-fits, needs)
+part-stands-start : tie.Need-part-stands-start Inv-loop μ-loop
+part-stands-start c = search needs
 
-sub-stands : tie.Need-sub-stands
-sub-stands c = search row-start
-
-part-stands-start : tie.Need-part-stands-start
-part-stands-start c = search row-start
-
-part-stands-end : tie.Need-part-stands-end
+part-stands-end : tie.Need-part-stands-end Inv-loop μ-loop
 part-stands-end c = search row-end
 
-stands-requires : tie.Need-stands-requires
+stands-requires : tie.Need-stands-requires Inv-loop μ-loop
 stands-requires c κs = search needs
 
-sub-t20 : tie.Need-sub-t20
-sub-t20 c = search row-start
+kind-at-requires : tie.Need-kind-at-requires Inv-loop μ-loop
+kind-at-requires c κs = search needs
 
-add-t21 : tie.Need-add-t21
-add-t21 c = search (kind-fits, row-is, needs)
+add-t23 : tie.Need-add-t23 Inv-loop μ-loop
+add-t23 c = search (kind-fits, needs)
 
-returns-2 : tie.Need-returns-2
-returns-2 c = search (kind-known, row-is)
+returns-2 : tie.Need-returns-2 Inv-loop μ-loop
+returns-2 c = search kind-found
 
-returns-3 : tie.Need-returns-3
-returns-3 c = search (kind-other, row-is)
+add-place-by : tie.Need-add-place-by Inv-loop μ-loop
+add-place-by c = search needs
+
+place-by-requires-2 : tie.Need-place-by-requires-2 Inv-loop μ-loop
+place-by-requires-2 c κs = search needs
+
+loop-less : tie.Need-loop-less Inv-loop μ-loop
+loop-less c = search needs
+
+loop-again : tie.Need-loop-again Inv-loop μ-loop
+loop-again c = (search needs, search next-passed)
+
+returns-3 : tie.Need-returns-3 Inv-loop μ-loop
+returns-3 c = search kind-nowhere
 
 pub kind-line-spec : {M : Type 1} → statement M
 kind-line-spec =
     tie.close
     (tie.spec
-    kind-guess-requires
-    enum-known-word
-    enum-told
+    Inv-loop
+    μ-loop
+    reaches-requires
     returns
     kind-table-requires
-    place-of-requires
+    add-b
+    shared-slice-read-b
+    place-by-requires
+    loop-holds
     cast-start
     mul-start
-    slice-aggregate-line-end
-    add-line-end
-    line-end-requires
-    add-end
+    line-length-requires
+    add-stands
     sub-stands
     part-stands-start
     part-stands-end
     stands-requires
-    sub-t20
-    add-t21
+    kind-at-requires
+    add-t23
     returns-2
+    add-place-by
+    place-by-requires-2
+    loop-less
+    loop-again
     returns-3)

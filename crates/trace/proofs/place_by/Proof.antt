@@ -1,25 +1,23 @@
-use borrow.Author.Needs.{needs}
-use Prim.Native.Nat.{ℕ, _+_, _*_, _-_, _≤_, _<_}
-use mathlib.Core.Path.{_≡_}
+use Prim.Native.Nat.{_-_, _≤_}
 use native.Mathlib.Omega.{arith}
-use lib.ListN.{length, getD}
+use borrow.Author.Needs.{needs}
+use lib.ListN.{length}
 use Rattle.event.specs.Kinds.{kinds}
-use Rattle.trace.specs.Words.{kindTable}
-use Rattle.trace.proofs.Words.{kind-found, kind-passed, kind-nowhere}
-use Rattle.trace.proofs.kind_by.Statement.{statement}
-use Rattle.trace.proofs.kind_by.Tie as tie
+use Rattle.trace.proofs.Words.{Lacking, lacking-more}
+use Rattle.trace.proofs.place_by.Statement.{statement}
+use Rattle.trace.proofs.place_by.Tie as tie
 
 abbrev Inv-loop : tie.InvT-loop
-Inv-loop b table place₀ place = (place ≤ length kinds) × ((p : ℕ) → p < place → getD kindTable (12 * p + 8) 0 ≡ b → ⊥)
+Inv-loop b from table place₀ place = (from ≤ place) × (place ≤ length kinds) × Lacking b from place
 
 abbrev μ-loop : tie.MeasureT-loop
-μ-loop b table place₀ place = length kinds - place
+μ-loop b from table place₀ place = length kinds - place
 
 kind-table-requires : tie.Need-kind-table-requires Inv-loop μ-loop
 kind-table-requires c κs = search needs
 
 loop-holds : tie.Need-loop-holds Inv-loop μ-loop
-loop-holds c = (omega arith, λ p h q. absurd (omega arith))
+loop-holds c = (omega arith, omega arith, λ p h l. absurd (omega arith))
 
 cast-if1 : tie.Need-cast-if1 Inv-loop μ-loop
 cast-if1 c = search needs
@@ -33,11 +31,8 @@ add-if1 c = search needs
 array-read-if1 : tie.Need-array-read-if1 Inv-loop μ-loop
 array-read-if1 c = search needs
 
-kind-at-requires : tie.Need-kind-at-requires Inv-loop μ-loop
-kind-at-requires c κs = search needs
-
 returns : tie.Need-returns Inv-loop μ-loop
-returns c = search kind-found
+returns c = search needs
 
 add-place : tie.Need-add-place Inv-loop μ-loop
 add-place c = search needs
@@ -46,13 +41,13 @@ loop-less : tie.Need-loop-less Inv-loop μ-loop
 loop-less c = search needs
 
 loop-again : tie.Need-loop-again Inv-loop μ-loop
-loop-again c = (omega arith, search kind-passed)
+loop-again c = (omega arith, omega arith, search lacking-more)
 
 returns-2 : tie.Need-returns-2 Inv-loop μ-loop
-returns-2 c = search kind-nowhere
+returns-2 c = search needs
 
-pub kind-by-spec : {M : Type 1} → statement M
-kind-by-spec =
+pub place-by-spec : {M : Type 1} → statement M
+place-by-spec =
     tie.close
     (tie.spec
     Inv-loop
@@ -63,7 +58,6 @@ kind-by-spec =
     mul-if1
     add-if1
     array-read-if1
-    kind-at-requires
     returns
     add-place
     loop-less
