@@ -77,17 +77,6 @@ module _ (z t : List ℕ) {d : List ℕ} {e : ℕ} (h : d ≡ sets z 0 t) (q : e
 pub past : (d : List ℕ) (i b : ℕ) → length d ≤ i → d ≡ set d i b
 past d i b h = sym (set-out d i b h)
 
--- so much of a text as has room
-pub cut-put : (d text : List ℕ) (at k : ℕ) {d1 : List ℕ} → k ≡ length d - at → at ≤ length d → k < length text
-    → d1 ≡ sets d at (take (k - 0) (drop 0 text)) → d1 ≡ sets d at text
-cut-put d text at k q l h e =
-    let n : length (take k text) ≡ k = length-take-le k text (omega arith) in
-    rw sub-zero at e ∙ sym (sets-past (drop k text) (sets d at (take k text)) (at + length (take k text)) (rw (length-sets, n) (omega arith)))
-    ∙ sym (sets-append (take k text) (drop k text) d at) ∙ ap (sets d at) (take-append-drop k text)
-
-pub past-all : (d text : List ℕ) (at : ℕ) → length d < at → d ≡ sets d at text
-past-all d text at h = sym (sets-past text d at (omega arith))
-
 -- the first i bytes of a text, one more, and all of them
 pub copy-more : (d d1 d2 text : List ℕ) (at i : ℕ) → d1 ≡ sets d at (take i text) → i < length text → d2 ≡ set d1 (at + i) (getD text i 0)
     → d2 ≡ sets d at (take (i + 1) text)

@@ -3,7 +3,7 @@
 use event::Refusal;
 use integer::Split;
 ghost use mathlib.Core.Path.{_≡_};
-ghost use Prim.Native.Nat.{_+_, _≤_};
+ghost use Prim.Native.Nat.{_+_};
 ghost use mathlib.Core.List.{_∷_};
 ghost use lib.Dec.{leb};
 ghost use lib.ListN.{length, set};
@@ -56,32 +56,16 @@ pub fn put_byte(b: u8, buf: &mut [u8], at: usize, skip: usize)
     }
 }
 
-// A text that has room.
-fn copy(text: &[u8], buf: &mut [u8], at: usize)
-    requires { ⌜ at + length (now text) ≤ length (now buf) ⌝ }
-    ensures { λ _. ⌜ now (buf .exit) ≡ sets (now (buf .entry)) at (now (text .entry)) ⌝ }
-{
-    let mut i = 0;
-    while i < text.len() {
-        buf[at + i] = text[i];
-        i += 1;
-    }
-}
-
 // So much of a text as has room.
 pub fn put_bytes(text: &[u8], buf: &mut [u8], at: usize)
     ensures { λ _. ⌜ now (buf .exit) ≡ sets (now (buf .entry)) at (now (text .entry)) ⌝ }
 {
-    let len = buf.len();
-    if len < at {
-        return;
+    let mut i = 0;
+    while i < text.len() {
+        let b = text[i];
+        put_byte(b, buf, at, i);
+        i += 1;
     }
-    let room = len - at;
-    if room < text.len() {
-        copy(&text[0..room], buf, at);
-        return;
-    }
-    copy(text, buf, at);
 }
 
 // Puts n's decimal, and answers how many digits it has.
@@ -128,7 +112,7 @@ pub fn put_whole(text: &[u8], buf: &mut [u8], at: usize) -> Put
 {
     let n = text.len();
     if fits(at, n, buf.len()) {
-        copy(text, buf, at);
+        put_bytes(text, buf, at);
         Put::End(at + n)
     } else {
         Put::Refused(Refusal::WrongSize)

@@ -11,8 +11,6 @@ use mir.Val.{Fits}
 use Rattle.decimal.specs.Decimal.{decimalOf}
 use Rattle.decimal.proofs.Laws.{decimal-small}
 use Rattle.buffer.proofs.TextLaws.{then, end-then, line-end, line-put, first-room, next-room}
-use Rattle.buffer.specs.Put.{heldOf}
-use Rattle.buffer.proofs.WholeLaws.{held-there}
 use Rattle.report.specs.Report.{fieldText, answerText}
 use Rattle.report.proofs.LengthLaws.{decimal-two, decimal-three, field-length}
 
@@ -60,10 +58,10 @@ module _ (v at : ℕ) (d : List ℕ) {d2 : List ℕ} where
 
 -- ---- a line
 
-module _ (name : List ℕ) (v at : ℕ) (d : List ℕ) (room : at + length (fieldText name v) ≤ length d) {d1 : List ℕ} (h1 : d1 ≡ heldOf d at name) where
-  name-put : d1 ≡ sets d at name
-  name-put = held-there d name at (omega (arith, field-length name v)) h1
+pub name-room : (name : List ℕ) (v at : ℕ) (d : List ℕ) → at + length (fieldText name v) ≤ length d → at + length name ≤ length d
+name-room name v at d room = omega (arith, field-length name v)
 
+module _ (name : List ℕ) (v at : ℕ) (d : List ℕ) (room : at + length (fieldText name v) ≤ length d) {d1 : List ℕ} (name-put : d1 ≡ sets d at name) where
   pub digits-room : at + length name + length (decimalOf v) ≤ length d1
   digits-room = rw (name-put, length-sets) (omega (arith, field-length name v))
 

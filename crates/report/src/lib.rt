@@ -99,13 +99,25 @@ fn put_digits(v: u32, buf: &mut [u8], at: usize) -> usize
     at + buffer::put_decimal(v, buf, at)
 }
 
+// A name where it has room. Its length is known at each call, so that the compiler needs no loop.
+fn put_name(name: &[u8], buf: &mut [u8], at: usize)
+    requires { ⌜ at + length (now name) ≤ length (now buf) ⌝ }
+    ensures { λ _. ⌜ now (buf .exit) ≡ sets (now (buf .entry)) at (now (name .entry)) ⌝ }
+{
+    let mut i = 0;
+    while i < name.len() {
+        buf[at + i] = name[i];
+        i += 1;
+    }
+}
+
 // A line where it has room, and the index after it.
 fn put_line(name: &[u8], v: u32, buf: &mut [u8], at: usize) -> usize
     requires { ⌜ at + length (fieldText (now name) v) ≤ length (now buf) ⌝ }
     ensures { λ r. ⌜ r ≡ at + length (fieldText (now (name .entry)) v) ⌝ }
     ensures { λ _. ⌜ now (buf .exit) ≡ sets (now (buf .entry)) at (fieldText (now (name .entry)) v) ⌝ }
 {
-    buffer::put_whole(name, buf, at);
+    put_name(name, buf, at);
     let e = put_digits(v, buf, at + name.len());
     buf[e] = b'\n';
     e + 1

@@ -1,49 +1,54 @@
-use Rattle.buffer.proofs.TextLaws.{past-all, cut-put}
+use Prim.Native.Nat.{_≤_, _-_}
+use mathlib.Core.Path.{_≡_, refl}
+use native.Mathlib.Omega.{arith}
 use borrow.Author.Needs.{needs}
+use lib.ListN.{length, take}
+use lib.Seq.{sets}
+use Rattle.buffer.proofs.TextLaws.{copy-more, copy-end}
 use Rattle.buffer.proofs.put_bytes.Statement.{statement}
 use Rattle.buffer.proofs.put_bytes.Tie as tie
 
-returns : tie.Need-returns
-returns c = search past-all
+abbrev Inv-loop : tie.InvT-loop
+Inv-loop text buf₀ at i₀ buf i = (i ≤ length text) × (length buf ≡ length buf₀) × (buf ≡ sets buf₀ at (take i text))
 
-sub-copy : tie.Need-sub-copy
-sub-copy c = search needs
+abbrev μ-loop : tie.MeasureT-loop
+μ-loop text buf₀ at i₀ buf i = length text - i
 
-part-copy-start : tie.Need-part-copy-start
-part-copy-start c = search needs
+loop-holds : tie.Need-loop-holds Inv-loop μ-loop
+loop-holds c = (omega arith, refl, refl)
 
-part-copy-end : tie.Need-part-copy-end
-part-copy-end c = search needs
+shared-slice-read-b : tie.Need-shared-slice-read-b Inv-loop μ-loop
+shared-slice-read-b c = omega arith
 
-copy-requires : tie.Need-copy-requires
-copy-requires c κs = search needs
+put-byte-requires : tie.Need-put-byte-requires Inv-loop μ-loop
+put-byte-requires c κs = search needs
 
-same-length : tie.Need-same-length
+add-i : tie.Need-add-i Inv-loop μ-loop
+add-i c = omega arith
+
+loop-less : tie.Need-loop-less Inv-loop μ-loop
+loop-less c = omega arith
+
+loop-again : tie.Need-loop-again Inv-loop μ-loop
+loop-again c = (omega arith, omega arith, search copy-more)
+
+same-length : tie.Need-same-length Inv-loop μ-loop
 same-length c = search needs
 
-returns-2 : tie.Need-returns-2
-returns-2 c = search cut-put
-
-copy-requires-2 : tie.Need-copy-requires-2
-copy-requires-2 c κs = search needs
-
-same-length-2 : tie.Need-same-length-2
-same-length-2 c = search needs
-
-returns-3 : tie.Need-returns-3
-returns-3 c = search needs
+returns : tie.Need-returns Inv-loop μ-loop
+returns c = search copy-end
 
 pub put-bytes-spec : {M : Type 1} → statement M
 put-bytes-spec =
     tie.close
     (tie.spec
-    returns
-    sub-copy
-    part-copy-start
-    part-copy-end
-    copy-requires
+    Inv-loop
+    μ-loop
+    loop-holds
+    shared-slice-read-b
+    put-byte-requires
+    add-i
+    loop-less
+    loop-again
     same-length
-    returns-2
-    copy-requires-2
-    same-length-2
-    returns-3)
+    returns)

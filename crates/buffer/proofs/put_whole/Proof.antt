@@ -1,4 +1,4 @@
-use Rattle.buffer.proofs.WholeLaws.{end-fits, whole-room, put-fits, held-fits, put-refused, held-refused}
+use Rattle.buffer.proofs.WholeLaws.{end-fits, put-fits, held-fits, put-refused, held-refused}
 use borrow.Author.Needs.{needs}
 use Rattle.buffer.proofs.put_whole.Statement.{statement}
 use Rattle.buffer.proofs.put_whole.Tie as tie
@@ -6,8 +6,8 @@ use Rattle.buffer.proofs.put_whole.Tie as tie
 fits-requires : tie.Need-fits-requires
 fits-requires c κs = search needs
 
-copy-requires : tie.Need-copy-requires
-copy-requires c κs = search whole-room
+put-bytes-requires : tie.Need-put-bytes-requires
+put-bytes-requires c κs = search needs
 
 add-t11 : tie.Need-add-t11
 add-t11 c = search end-fits
@@ -23,4 +23,4 @@ returns-2 c = (search put-refused, search held-refused)
 
 pub put-whole-spec : {M : Type 1} → statement M
 put-whole-spec =
-    tie.close (tie.spec fits-requires copy-requires add-t11 same-length returns returns-2)
+    tie.close (tie.spec fits-requires put-bytes-requires add-t11 same-length returns returns-2)

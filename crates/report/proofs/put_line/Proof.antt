@@ -1,12 +1,12 @@
 use native.Mathlib.Omega.{arith}
 use lib.ListN.{length-set}
-use Rattle.report.proofs.Laws.{digits-room, newline-room, line-fits, field-end, field-put}
+use Rattle.report.proofs.Laws.{name-room, digits-room, newline-room, line-fits, field-end, field-put}
 use borrow.Author.Needs.{needs}
 use Rattle.report.proofs.put_line.Statement.{statement}
 use Rattle.report.proofs.put_line.Tie as tie
 
-put-whole-requires : tie.Need-put-whole-requires
-put-whole-requires c κs = search needs
+put-name-requires : tie.Need-put-name-requires
+put-name-requires c κs = search name-room
 
 add-put-digits : tie.Need-add-put-digits
 add-put-digits c = search needs
@@ -30,7 +30,7 @@ pub put-line-spec : {M : Type 1} → statement M
 put-line-spec =
     tie.close
     (tie.spec
-    put-whole-requires
+    put-name-requires
     add-put-digits
     put-digits-requires
     slice-write-buf

@@ -4,15 +4,15 @@ use native.Mathlib.Omega.{arith}
 use borrow.Author.Needs.{needs}
 use lib.ListN.{length, take}
 use lib.Seq.{sets}
 use Rattle.buffer.proofs.TextLaws.{copy-more, copy-end}
-use Rattle.buffer.proofs.copy.Statement.{statement}
-use Rattle.buffer.proofs.copy.Tie as tie
+use Rattle.report.proofs.put_name.Statement.{statement}
+use Rattle.report.proofs.put_name.Tie as tie
 
 abbrev Inv-loop : tie.InvT-loop
-Inv-loop text buf₀ at i₀ buf i = (i ≤ length text) × (length buf ≡ length buf₀) × (buf ≡ sets buf₀ at (take i text))
+Inv-loop name buf₀ at i₀ buf i = (i ≤ length name) × (length buf ≡ length buf₀) × (buf ≡ sets buf₀ at (take i name))
 
 abbrev μ-loop : tie.MeasureT-loop
-μ-loop text buf₀ at i₀ buf i = length text - i
+μ-loop name buf₀ at i₀ buf i = length name - i
 
 loop-holds : tie.Need-loop-holds Inv-loop μ-loop
 loop-holds c = (omega arith, refl, refl)
@@ -41,8 +41,8 @@ same-length c = search needs
 returns : tie.Need-returns Inv-loop μ-loop
 returns c = search copy-end
 
-pub copy-spec : {M : Type 1} → statement M
-copy-spec =
+pub put-name-spec : {M : Type 1} → statement M
+put-name-spec =
     tie.close
     (tie.spec
     Inv-loop
