@@ -1,12 +1,11 @@
 -- The bytes of an event that was read are its text: it has no other. Assumes nothing.
-use Prim.Native.Nat.{ℕ, _+_, _-_, _≤_, _<_}
+use Prim.Native.Nat.{ℕ, zero, suc, _+_, _-_, _≤_, _<_}
 use mathlib.Core.Path.{_≡_, refl, sym, ap, _∙_}
-use mathlib.Core.List.{List, [], _∷_, _++_, append-assoc}
+use mathlib.Core.List.{List, [], _∷_, _++_, map, append-assoc}
 use mathlib.Core.Bool.{Bool, true, false, cond}
 use native.Mathlib.Omega.{arith}
-use borrow.Author.Needs.{needs}
 use lib.IntN.{ℤ}
-use lib.ListN.{length, take, drop, take-append-drop}
+use lib.ListN.{length, getD, take, drop, take-append-drop}
 use lib.Seq.{take-add, drop-drop}
 use Rattle.decimal.specs.declared.Decimal.{Decimal}
 use Rattle.decimal.specs.declared.Decimal.the-variants.{Number, Malformed}
@@ -15,8 +14,8 @@ use Rattle.decimal.proofs.RoundTrip.{only-text}
 use Rattle.event.specs.declared.Numbers.{Numbers}
 use Rattle.event.specs.declared.Event.{Event}
 use Rattle.event.specs.declared.Kind.{Kind}
-use Rattle.event.specs.Kinds.{kindOf, numbersOf, eventOf, kinds, kindAt}
-use Rattle.event.proofs.Laws.{Each, every-kind}
+use Rattle.event.specs.Kinds.{eventOf, kinds, kindAt, placeOf}
+use Rattle.event.proofs.Laws.{kind-back, place-small}
 use Rattle.line.specs.Line.{sameBytes}
 use Rattle.line.proofs.Bytes.{same-then}
 use Rattle.trace.specs.declared.Word.{Word}
@@ -58,17 +57,20 @@ given-only name l {z} e = go (sameBytes (take (length name) l) name) refl e
         ∙ ap (λ (b : List ℕ). name ++ b) (only-text (drop (length name) l) z q)
     go false h q = cc
 
+-- what is the same all along the table is the same of every kind
+module _ {A : Type 0} (f g : Kind → A) where
+  same-at : (ks : List Kind) (p : ℕ) (first : Kind) → p < length ks → map f ks ≡ map g ks → f (getD ks p first) ≡ g (getD ks p first)
+  same-at [] p first h e = absurd (omega arith)
+  same-at (k ∷ ks) zero first h e = ap (λ (l : List A). getD l 0 (f k)) e
+  same-at (k ∷ ks) (suc p) first h e = same-at ks p first (omega arith) (ap (λ (l : List A). drop 1 l) e)
+
+  all-along : map f kinds ≡ map g kinds → (k : Kind) → f k ≡ g k
+  all-along e k = rw (kind-back k) at (same-at kinds (placeOf k) (kindAt 0) (place-small k) e)
+
 -- an event that was made has its kind and its numbers
-Made : Kind → Type 0
-Made k = (n : Numbers) → (kindOf (eventOf k n) ≡ k) × (numbersOf (eventOf k n) ≡ n)
-
-mades : Each (λ p. Made (kindAt p)) (length kinds)
-unfolding Made
-mades = search needs
-
 made-text : (k : Kind) (n : Numbers) → eventText (eventOf k n) ≡ ended (kindText k) ++ numbersText n
-unfolding Made eventText
-made-text k n = let m = every-kind Made mades k n in rw (m .0, m .1)
+unfolding eventText
+made-text k n = all-along (λ k. eventText (eventOf k n)) (λ k. ended (kindText k) ++ numbersText n) refl k
 
 -- ---- four lines
 

@@ -2,25 +2,28 @@
 use Prim.Native.Nat.{ℕ, _+_, _-_}
 use mathlib.Core.Path.{_≡_, refl, sym, ap, _∙_}
 use mathlib.Core.List.{List, [], _∷_, _++_, append-assoc}
+use mathlib.Core.Bool.{Bool, true, false, not, _&&_}
 use native.Mathlib.Omega.{arith}
-use borrow.Author.Needs.{needs}
 use mir.Syntax.{w32}
 use mir.Val.{SFits}
+use lib.Dec.{eqb}
 use lib.IntN.{ℤ}
 use lib.ListN.{length, drop, length-append, length-drop}
 use lib.Seq.{take-append-seam, drop-append-seam, drop-drop}
-use borrow.Author.Tests.{lt-ltb, ne-eqb}
+use borrow.Author.Tests.{lt-ltb, eqb-true, eqb-false, ne-eqb, not-true}
+use Rattle.integer.proofs.BoolLaws.{both}
 use Rattle.decimal.specs.declared.Decimal.the-variants.{Number}
 use Rattle.decimal.specs.Decimal.{textOf}
 use Rattle.decimal.proofs.Clean.{Clean, clean-append, no-newline}
 use Rattle.decimal.proofs.RoundTrip as decimal
 use Rattle.event.specs.declared.Event.{Event}
 use Rattle.event.specs.declared.Kind.{Kind}
-use Rattle.event.specs.Kinds.{kindOf, numbersOf, kinds, kindAt}
-use Rattle.event.proofs.Laws.{Each, every-kind, event-back}
+use Rattle.event.specs.Kinds.{kindOf, numbersOf, kinds, kindAt, placeOf}
+use Rattle.event.proofs.Laws.{passes, passed, kind-back, place-small, event-back}
 use Rattle.line.specs.Line.{sameBytes, firstLine, lineAt, endAt}
 use Rattle.line.proofs.Bytes.{same-self}
-use Rattle.trace.specs.declared.Word.the-variants.{Known}
+use Rattle.trace.specs.declared.Word.{Word}
+use Rattle.trace.specs.declared.Word.the-variants.{Known, Unknown}
 use Rattle.trace.specs.declared.Named.the-variants as named
 use Rattle.trace.specs.declared.Field.the-variants as field
 use Rattle.trace.specs.declared.Reading.the-variants as reading
@@ -50,17 +53,41 @@ module _ (text : List ℕ) (at : ℕ) (l after : List ℕ) (stands : drop at tex
 
 -- ---- the lines of an event
 
+clean : List ℕ → Bool
+clean [] = true
+clean (b ∷ bs) = not (eqb b 10) && clean bs
+
+clean-then : (l : List ℕ) → clean l ≡ true → Clean l
+unfolding clean
+clean-then [] y = tt
+clean-then (b ∷ bs) y = let t = both (not (eqb b 10)) (clean bs) y in (eqb-false b 10 (not-true (eqb b 10) (t .0)), clean-then bs (t .1))
+
+-- a word that stands for the kind at a place
+names : ℕ → Word → Bool
+names p (Known k) = eqb (placeOf k) p
+names p Unknown = false
+
+names-then : (p : ℕ) (w : Word) → names p w ≡ true → w ≡ Known (kindAt p)
+unfolding names
+names-then p (Known k) y = ap Known (sym (kind-back k) ∙ ap kindAt (eqb-true (placeOf k) p y))
+names-then p Unknown y = cc
+
 -- each kind's line has no newline, and names it
-Back : Kind → Type 0
-Back k = Clean (kindText k) × (kindNamed (kindText k) ≡ Known k)
+lineBack : ℕ → Bool
+lineBack p = clean (kindText (kindAt p)) && names p (kindNamed (kindText (kindAt p)))
 
-backs : Each (λ p. Back (kindAt p)) (length kinds)
-unfolding Back kindNamed kindIn sameBytes
-backs = search needs
+lines-back : passes lineBack (length kinds) ≡ true
+unfolding passes lineBack clean names kindNamed kindIn sameBytes
+lines-back = refl
 
-kind-back : (k : Kind) → Clean (kindText k) × (kindNamed (kindText k) ≡ Known k)
-unfolding Back
-kind-back k = every-kind Back backs k
+kind-names : (k : Kind) → Clean (kindText k) × (kindNamed (kindText k) ≡ Known k)
+unfolding lineBack
+kind-names k =
+    let p : ℕ = placeOf k in
+    let l : List ℕ = kindText (kindAt p) in
+    let t = both (clean l) (names p (kindNamed l)) (passed lineBack (length kinds) lines-back p (place-small k)) in
+    let r : Clean l × (kindNamed l ≡ Known (kindAt p)) = (clean-then l (t .0), names-then p (kindNamed l) (t .1)) in
+    rw (kind-back k) at r
 
 value-back : (name : List ℕ) (z : ℤ) → SFits w32 z → numberNamed name (name ++ textOf z) ≡ Number z
 unfolding numberNamed
@@ -72,7 +99,7 @@ module _ (text : List ℕ) (at : ℕ) (after : List ℕ) where
   pub kind-line : (k : Kind) → drop at text ≡ ended (kindText k) ++ after → kindLine text at ≡ named.Kind k (at + length (ended (kindText k)))
   unfolding kindLine
   kind-line k stands =
-      line-back text at (kindText k) after stands namedBy named.Wrong kindNamed (kind-back k .0) ∙ rw (kind-back k .1)
+      line-back text at (kindText k) after stands namedBy named.Wrong kindNamed (kind-names k .0) ∙ rw (kind-names k .1)
 
   pub number-line : (name : List ℕ) (z : ℤ) → Clean name → SFits w32 z → drop at text ≡ ended (name ++ textOf z) ++ after
       → numberLine name text at ≡ field.Number z (at + length (ended (name ++ textOf z)))

@@ -5,7 +5,6 @@ use mathlib.Core.Bool.{Bool, true, false, _&&_}
 use mathlib.Core.List.{List, _++_}
 use native.Mathlib.Omega.{arith}
 use borrow.Author.Count.{below-more}
-use borrow.Author.Needs.{needs}
 use borrow.Author.Tests.{eqb-true, leb-true, leb-false, ltb-true, ltb-false}
 use lib.Dec.{leb, ltb, eqb}
 use lib.ListN.{length, getD, take, drop, length-append, length-drop, take-append-drop}
@@ -13,7 +12,7 @@ use lib.Seq.{getD-drop}
 use Rattle.integer.proofs.BoolLaws.{both}
 use Rattle.event.specs.declared.Kind.{Kind}
 use Rattle.event.specs.Kinds.{kinds, kindAt, placeOf}
-use Rattle.event.proofs.Laws.{Each, every-kind, at-place, passes, passed, kind-back, place-small}
+use Rattle.event.proofs.Laws.{passes, passed, kind-back, place-small}
 use Rattle.line.specs.Line.{sameBytes, firstLine, lineAt, endAt}
 use Rattle.line.proofs.Bytes.{same-then}
 use Rattle.trace.specs.declared.Named.{Named}
@@ -106,26 +105,30 @@ pub lacking-more : (b from place : ℕ) {table : List ℕ} → table ≡ kindTab
 lacking-more b from place ht n inv p h l = below-more (λ p. from ≤ p → ninth p ≡ b → ⊥) place (λ p l h. inv p h l) (λ h. rw ht at n) p l h
 
 -- whatever follows the line, it is that of the table
-Ninth : ℕ → Type 0
-Ninth p = (after : List ℕ) → getD (lineOf p ++ after) 8 0 ≡ ninth p
+ninthOf : (after : List ℕ) → ℕ → Bool
+ninthOf after p = eqb (getD (lineOf p ++ after) 8 0) (ninth p)
 
-ninths : Each Ninth (length kinds)
-unfolding Ninth kindTable
-ninths = search needs
+ninths : (after : List ℕ) → passes (ninthOf after) (length kinds) ≡ true
+unfolding passes ninthOf kindTable
+ninths after = refl
+
+line-ninth : (p : ℕ) → p < length kinds → (after : List ℕ) → getD (lineOf p ++ after) 8 0 ≡ ninth p
+unfolding ninthOf
+line-ninth p h after = eqb-true (getD (lineOf p ++ after) 8 0) (ninth p) (passed (ninthOf after) (length kinds) (ninths after) p h)
 
 -- ---- a kind's line in the text
 
 -- kind= and a word: the shortest is pin
-Long : Kind → Type 0
-Long k = leb 8 (length (kindText k)) ≡ true
+isLong : ℕ → Bool
+isLong p = leb 8 (length (kindText (kindAt p)))
 
-longs : Each (λ p. Long (kindAt p)) (length kinds)
-unfolding Long
-longs = search needs
+longs : passes isLong (length kinds) ≡ true
+unfolding passes isLong
+longs = refl
 
 pub kind-long : (k : Kind) → 8 ≤ length (kindText k)
-unfolding Long
-kind-long k = leb-true 8 (length (kindText k)) (every-kind Long longs k)
+unfolding isLong
+kind-long k = leb-true 8 (length (kindText k)) (rw (kind-back k) at (passed isLong (length kinds) longs (placeOf k) (place-small k)))
 
 module _ (s : List ℕ) (at : ℕ) where
   -- the line is wrong if no kind's line stands there
@@ -152,13 +155,12 @@ module _ (s : List ℕ) (at : ℕ) where
 
   -- nor of one from there on with another byte behind its first eight
   other-bytes : (place : ℕ) → Passed place → {to : ℕ} → to ≤ length kinds → Lacking (getD s (at + 8) 0) place to → Passed to
-  unfolding Ninth
   other-bytes place before m lacking p h after q = go (ltb p place) refl
     where
       go : (t : Bool) → ltb p place ≡ t → ⊥
       go true e = before p (ltb-true p place e) after q
       go false e =
-          let b : getD (drop at s) 8 0 ≡ ninth p = rw q (at-place Ninth (length kinds) ninths p (omega arith) after) in
+          let b : getD (drop at s) 8 0 ≡ ninth p = rw q (line-ninth p (omega arith) after) in
           lacking p (ltb-false p place e) h (sym b ∙ getD-drop at s 8 0)
 
   pub first-passed : {to : ℕ} → to ≤ length kinds → Lacking (getD s (at + 8) 0) 0 to → Passed to
