@@ -1,7 +1,7 @@
 -- Kinds and their places in the table; an event by its kind; the size of a reply number. Assumes nothing.
 use Prim.Native.Nat.{ℕ, zero, suc, _≤_, _<_}
 use mathlib.Core.Bool.{Bool, true, false, _&&_, true≢false}
-use mathlib.Core.Path.{_≡_, refl, sym, subst}
+use mathlib.Core.Path.{_≡_, refl, sym, ap, subst}
 use mathlib.Core.Logic.{inl, inr}
 use mathlib.Core.List.{List, [], _∷_}
 use denote.Struct.Field.{Field}
@@ -40,15 +40,33 @@ at-variant (Fs ∷ Fss) P all (inr c) = at-variant Fss (λ c. P (inr c)) (all .1
 pub by-variants : (N : Record) (P : N .D → Type 0) → Every (N .parts) (λ c. P (N .make c)) → (d : N .D) → P d
 by-variants N P all d = subst P (N .eta d) (at-variant (N .parts) (λ c. P (N .make c)) all (N .as-values d))
 
+-- what a function gives at each variant, in their order
+abbrev Rows : List (List Field) → Type 0 → Type 0
+Rows [] X = Unit {0}
+Rows (Fs ∷ Fss) X = (Values Fs → X) × Rows Fss X
+
+abbrev rows : {X : Type 0} (Fss : List (List Field)) → (Choice Fss → X) → Rows Fss X
+rows [] f = tt
+rows (Fs ∷ Fss) f = (λ v. f (inl v), rows Fss (λ c. f (inr c)))
+
+same-row : {X : Type 0} (Fss : List (List Field)) (f g : Choice Fss → X) → rows Fss f ≡ rows Fss g → (c : Choice Fss) → f c ≡ g c
+same-row [] f g q c = absurd c
+same-row (Fs ∷ Fss) f g q (inl v) = ap (λ t. t .0 v) q
+same-row (Fs ∷ Fss) f g q (inr c) = same-row Fss (λ c. f (inr c)) (λ c. g (inr c)) (ap (λ t. t .1) q) c
+
+-- two functions with the same rows are the same: one computed equation for every value
+pub by-rows : (N : Record) {X : Type 0} (f g : N .D → X) → rows (N .parts) (λ c. f (N .make c)) ≡ rows (N .parts) (λ c. g (N .make c)) → (d : N .D) → f d ≡ g d
+by-rows N f g q d = subst (λ d. f d ≡ g d) (N .eta d) (same-row (N .parts) (λ c. f (N .make c)) (λ c. g (N .make c)) q (N .as-values d))
+
 pub past-kinds : (p : ℕ) → length kinds ≤ p → kind.Power ≡ kindAt p
 past-kinds p h = sym (List·getD-eq-default kinds kind.Power h)
 
 -- a kind stands at its place
 pub kind-back : (k : Kind) → kindAt (placeOf k) ≡ k
-kind-back = by-variants kind-enum (λ k. kindAt (placeOf k) ≡ k) (search depth 30)
+kind-back = by-rows kind-enum (λ k. kindAt (placeOf k)) (λ k. k) refl
 
 pub place-small : (k : Kind) → placeOf k < length kinds
-place-small k = ltb-true (placeOf k) (length kinds) (by-variants kind-enum (λ k. ltb (placeOf k) (length kinds) ≡ true) (search depth 30) k)
+place-small k = ltb-true (placeOf k) (length kinds) (by-rows kind-enum (λ k. ltb (placeOf k) (length kinds)) (λ k. true) refl k)
 
 -- what holds at each of the first n places, one by one, holds at any of them
 abbrev pub Each : (ℕ → Type 0) → ℕ → Type 0
@@ -81,7 +99,7 @@ every-kind P all k = rw (kind-back k) at (at-place (λ p. P (kindAt p)) (length 
 
 -- an event is its kind and its numbers
 transfer-back : (t : Transfer) → eventOf (kindOf (event.Bus t)) (numbersOf (event.Bus t)) ≡ event.Bus t
-transfer-back = by-variants transfer-enum (λ t. eventOf (kindOf (event.Bus t)) (numbersOf (event.Bus t)) ≡ event.Bus t) (search depth 30)
+transfer-back = by-rows transfer-enum (λ t. eventOf (kindOf (event.Bus t)) (numbersOf (event.Bus t))) event.Bus refl
 
 pub event-back : (e : Event) → eventOf (kindOf e) (numbersOf e) ≡ e
 event-back = by-variants event-enum (λ e. eventOf (kindOf e) (numbersOf e) ≡ e) (search transfer-back depth 30)
@@ -91,7 +109,7 @@ event-made {e} hk hn = rw (← hk, ← hn) (sym (event-back e))
 
 -- no reply number has more than three digits
 refusal-small : (r : Refusal) → refusalNumber r < 1000
-refusal-small = by-variants refusal-enum (λ r. refusalNumber r < 1000) (search arith depth 30)
+refusal-small r = ltb-true (refusalNumber r) 1000 (by-rows refusal-enum (λ r. ltb (refusalNumber r) 1000) (λ r. true) refl r)
 
 pub number-small : (a : Answer) → numberOf a < 1000
 number-small (Done d) = omega arith

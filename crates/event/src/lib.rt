@@ -147,11 +147,10 @@ const KINDS: [Kind; 9] = [
 pub fn kind_at(place: u16) -> Kind
     ensures { λ r. ⌜ r ≡ kindAt place ⌝ }
 {
-    if place < KIND_COUNT {
-        KINDS[place as usize]
-    } else {
-        Kind::Power
+    if KIND_COUNT <= place {
+        return Kind::Power;
     }
+    KINDS[place as usize]
 }
 
 // Why an event, an image or a text is refused: the replies of document 01 from 1, in their order.
