@@ -6,7 +6,7 @@ use mathlib.Core.List.{List, [], _∷_}
 use native.Mathlib.Omega.{arith}
 use lib.Dec.{eqb, ltb}
 use lib.ListN.{length, getD, List·getD-eq-default}
-use borrow.Author.Tests.{eqb-true, eqb-false, ne-eqb, lt-ltb, le-ltb}
+use borrow.Author.Tests.{ltb-true, eqb-true, eqb-false, ne-eqb, lt-ltb, le-ltb}
 use Rattle.integer.proofs.BoolLaws.{by-cases}
 use Rattle.event.specs.Answers.{numberOf, dataOf}
 use Rattle.event.specs.declared.Answer.{Answer}
@@ -19,18 +19,12 @@ use Rattle.judge.proofs.RightLaws.{right}
 use Rattle.keeper.specs.Keeping.{isOn, standingOf, outcomeOf, shownBy, imageAnswer, imageBuffer}
 use Rattle.keeper.specs.declared.Keeper.{Keeper}
 use Rattle.keeper.specs.declared.Keeper.the-variants.{Off, On}
-use Rattle.history.specs.Demand1.{Applies, one, two, three, four, five, six, seven, eight, nine, number, imageNumber, Demand1}
+use Rattle.history.specs.Demand1.{conditions, Applies, number, imageNumber, Demand1}
 
 -- ---- the reply
 
--- the test of each number; 0 has none
-abbrev tests : Keeper → Event → List Bool
-tests k e =
-    false ∷ noPower (isOn k) e ∷ otherAddress (standingOf k .address) e ∷ noPart e ∷ noRegister e ∷ readOnly e
-    ∷ outOfRange e ∷ badCode e ∷ oddLocal e ∷ notMonitoring (standingOf k .monitoring) e ∷ []
-
 abbrev test : Keeper → Event → ℕ → Bool
-test k e n = getD (tests k e) n false
+test k e n = getD (conditions k e) n false
 
 abbrev replyOf : Keeper → Event → Answer
 replyOf k e = lowest (isOn k) (standingOf k .address) (standingOf k .monitoring) e
@@ -42,57 +36,34 @@ record Lowest (k : Keeper) (e : Event) (m : ℕ) (a : Answer) : Type 0 where
   empty : 0 < numberOf a → dataOf a ≡ 0
 
 module _ (k : Keeper) (e : Event) where
-  -- a number that applies has its test true
-  tested : {n : ℕ} → Applies k e n → test k e n ≡ true
-  tested (one p) = p
-  tested (two p) = p
-  tested (three p) = p
-  tested (four p) = p
-  tested (five p) = p
-  tested (six p) = p
-  tested (seven p) = p
-  tested (eight p) = p
-  tested (nine p) = p
-
-  untested : {n : ℕ} → test k e n ≡ false → Applies k e n → ⊥
-  untested f p = let z : _≡_ {A = ℕ} 0 1 = cc (tested p) in omega arith
+  untested : (n : ℕ) → test k e n ≡ false → Applies k e n → ⊥
+  untested n f p = true≢false (sym p ∙ f)
 
   last : Lowest k e 10 (Done 0)
   last =
       record {
         given = λ h. absurd (omega arith);
-        lowest = λ n l p. absurd (untested (List·getD-eq-default (tests k e) false l) p);
+        lowest = λ n l p. absurd (untested n (List·getD-eq-default (conditions k e) false l) p);
         empty = λ h. refl;
       }
 
   -- the test of an answer's number, before those of higher numbers
-  before :
-      (a : Answer) {r : Answer} → 0 < numberOf a → dataOf a ≡ 0 → (test k e (numberOf a) ≡ true → Applies k e (numberOf a)) →
-      Lowest k e (suc (numberOf a)) r → Lowest k e (numberOf a) (cond (test k e (numberOf a)) a r)
-  before a h d to rest =
-      by-cases (test k e (numberOf a))
-      (λ t. rw t (record { given = λ g. to t; lowest = λ n l p. (h, l); empty = λ g. d }))
-      (λ t. rw t (record {
+  before : (a r : Answer) {m : ℕ} {t : Bool} → m ≡ numberOf a → t ≡ test k e m → ltb 0 m ≡ true → dataOf a ≡ 0 → Lowest k e (suc m) r → Lowest k e m (cond t a r)
+  before a r {m} {t} qm qt h d rest =
+      by-cases t
+      (λ y. rw y (record { given = λ g. rw (← qm) (sym qt ∙ y); lowest = λ n l p. rw (← qm) (ltb-true 0 m h, l); empty = λ g. d }))
+      (λ y. rw y (record {
         given = rest .given;
         lowest = λ n l p.
-            by-cases (eqb n (numberOf a))
-            (λ q. absurd (untested (rw (eqb-true n (numberOf a) q) t) p))
-            (λ q. rest .lowest n (omega (arith, eqb-false n (numberOf a) q)) p);
+            by-cases (eqb n m)
+            (λ q. absurd (untested n (rw (eqb-true n m q) (sym qt ∙ y)) p))
+            (λ q. rest .lowest n (omega (arith, eqb-false n m q)) p);
         empty = rest .empty;
       }))
 
   chosen : Lowest k e 1 (replyOf k e)
   unfolding lowest
-  chosen =
-      before (Refused NoPower) (omega arith) refl one
-      (before (Refused OtherAddress) (omega arith) refl two
-      (before (Refused NoSuchPart) (omega arith) refl three
-      (before (Refused NoSuchRegister) (omega arith) refl four
-      (before (Refused ReadOnly) (omega arith) refl five
-      (before (Refused OutOfRange) (omega arith) refl six
-      (before (Refused BadRangeCode) (omega arith) refl seven
-      (before (Refused OddLocal) (omega arith) refl eight
-      (before (Refused NotMonitoring) (omega arith) refl nine last))))))))
+  chosen = search (before, last) depth 60
 
 -- ---- the register image
 
@@ -139,7 +110,7 @@ module _ (k : Keeper) (e : Event) (own : standingOf k .address < 256) where
       (λ t. rw (refused-is t))
 
   positive : (n : ℕ) → Applies k e n → 1 ≤ n
-  positive zero p = absurd (untested k e refl p)
+  positive zero p = absurd (untested k e zero refl p)
   positive (suc n) p = omega arith
 
   refusal : 0 < number k e → ((outcomeOf k e) .keeper ≡ k) × (dataOf ((outcomeOf k e) .answer) ≡ 0) × ((outcomeOf k e) .shown ≡ shownBy k)

@@ -1,26 +1,32 @@
 -- Demand 1, for every keeper, reachable or not, and every event with every number.
 use Prim.Native.Nat.{ℕ, _<_, _≤_}
 use mathlib.Core.Path.{_≡_}
-use mathlib.Core.Bool.{true, false}
-use mathlib.Core.List.{List}
-use lib.ListN.{length}
+use mathlib.Core.Bool.{Bool, true, false}
+use mathlib.Core.List.{List, [], _∷_}
+use lib.ListN.{length, getD}
 use Rattle.event.specs.Answers.{numberOf, dataOf}
 use Rattle.event.specs.declared.Event.{Event}
 use Rattle.rules.specs.Replies.{noPower, otherAddress, noPart, noRegister, readOnly, outOfRange, badCode, oddLocal, notMonitoring}
 use Rattle.keeper.specs.Keeping.{isOn, standingOf, outcomeOf, shownBy, imageAnswer, imageBuffer}
 use Rattle.keeper.specs.declared.Keeper.{Keeper}
 
--- the condition of each reply number, over the event's own numbers
-pub data Applies (k : Keeper) (e : Event) : ℕ → Type 0 where
-  one : noPower (isOn k) e ≡ true → Applies k e 1
-  two : otherAddress (standingOf k .address) e ≡ true → Applies k e 2
-  three : noPart e ≡ true → Applies k e 3
-  four : noRegister e ≡ true → Applies k e 4
-  five : readOnly e ≡ true → Applies k e 5
-  six : outOfRange e ≡ true → Applies k e 6
-  seven : badCode e ≡ true → Applies k e 7
-  eight : oddLocal e ≡ true → Applies k e 8
-  nine : notMonitoring (standingOf k .monitoring) e ≡ true → Applies k e 9
+-- the condition of each reply number, over the event's own numbers; 0 has none
+abbrev pub conditions : Keeper → Event → List Bool
+conditions k e =
+    false
+    ∷ noPower (isOn k) e
+    ∷ otherAddress (standingOf k .address) e
+    ∷ noPart e
+    ∷ noRegister e
+    ∷ readOnly e
+    ∷ outOfRange e
+    ∷ badCode e
+    ∷ oddLocal e
+    ∷ notMonitoring (standingOf k .monitoring) e
+    ∷ []
+
+abbrev pub Applies : Keeper → Event → ℕ → Type 0
+Applies k e n = getD (conditions k e) n false ≡ true
 
 abbrev pub number : Keeper → Event → ℕ
 number k e = numberOf ((outcomeOf k e) .answer)
