@@ -29,13 +29,13 @@ fn digits(s: &[u8]) -> Magnitude
     let mut i = 0;
     while i < s.len() {
         let b = s[i];
-        if b < 48 {
+        if b < b'0' {
             return Magnitude::Bad;
         }
-        if 57 < b {
+        if b'9' < b {
             return Magnitude::Bad;
         }
-        v = v * 10 + wide(b - 48);
+        v = v * 10 + wide(b - b'0');
         if 2147483648 < v {
             return Magnitude::Bad;
         }
@@ -53,7 +53,7 @@ fn magnitude_of(s: &[u8]) -> Magnitude
         return Magnitude::Bad;
     }
     let b = s[0];
-    if b == 48 {
+    if b == b'0' {
         if n == 1 {
             return Magnitude::Value(0);
         }
@@ -89,7 +89,7 @@ pub fn read_decimal(s: &[u8]) -> Decimal
         return Decimal::Malformed;
     }
     let b = s[0];
-    if b == 45 {
+    if b == b'-' {
         let m = magnitude_of(&s[1..]);
         match m {
             Magnitude::Value(v) => {

@@ -33,7 +33,7 @@ fn number_line(name: &[u8], v: i32, text: &mut [u8], at: usize) -> usize
     buffer::put_bytes(name, text, at);
     let a = at + name.len();
     let e = a + buffer::put_signed(v, text, a);
-    buffer::put_byte(10, text, e, 0);
+    buffer::put_byte(b'\n', text, e, 0);
     e + 1
 }
 
