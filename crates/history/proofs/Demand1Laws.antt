@@ -48,7 +48,8 @@ module _ (k : Keeper) (e : Event) where
       }
 
   -- the test of an answer's number, before those of higher numbers
-  before : (a r : Answer) {m : ℕ} {t : Bool} → m ≡ numberOf a → t ≡ test k e m → ltb 0 m ≡ true → dataOf a ≡ 0 → Lowest k e (suc m) r → Lowest k e m (cond t a r)
+  before : (a r : Answer) {m : ℕ} {t : Bool} → m ≡ numberOf a → t ≡ test k e m → ltb 0 m ≡ true → dataOf a ≡ 0 → Lowest k e (suc m) r
+      → Lowest k e m (cond t a r)
   before a r {m} {t} qm qt h d rest =
       by-cases t
       (λ y. rw y (record { given = λ g. rw (← qm) (sym qt ∙ y); lowest = λ n l p. rw (← qm) (ltb-true 0 m h, l); empty = λ g. d }))

@@ -1,2 +1,3 @@
 pub mod Rewritten
 pub mod Wrong
+pub mod Handed
