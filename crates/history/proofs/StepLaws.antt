@@ -29,7 +29,7 @@ use Rattle.reading.specs.Faithful.{Faithful}
 use Rattle.reading.proofs.FaithfulLaws.{faithful}
 use Rattle.input.specs.Inputs.{plainOf, measured, inputOf, bitAfter}
 use Rattle.input.proofs.PlainLaws.{plain-is, sample-is}
-use Rattle.stored.specs.Stored.{storedAfter, channelRegistersAfter, fanRegistersAfter, registersAfter, channelRegistersOf}
+use Rattle.stored.specs.Stored.{storedAfter, channelBytes, fanBytes, bytes, registersAfter, channelRegistersOf}
 use Rattle.channel.specs.Channels.{readingAfter, flagAtSample, latchAfter, flagAfter, clearsBit, statusBitAfter, highBitAfter, lowBitAfter, thermBitAfter}
 use Rattle.channel.specs.Channels.{errorIn, errorAfter, channelAfter, channelsAfter}
 use Rattle.channel.specs.declared.Channel.{Channel}
@@ -67,16 +67,16 @@ module _ (e : Event) (d : Taken) (fine : replies.outOfRange e ≡ false) where
       (λ c. rw (r, w, c, counted-is e fine (count-tach a e c)))
       (λ c. rw (r, w, c)))))
 
-  channel-registers-is : (c : ChannelId) → channelRegistersAfter c (inputOf e) (channelRegistersBy c d) ≡ channelRegistersBy c (e ∷ d)
-  unfolding channelRegistersAfter channelRegistersBy
+  channel-registers-is : (c : ChannelId) → channelBytes (λ a was. storedAfter a (inputOf e) was) c (channelRegistersBy c d) ≡ channelRegistersBy c (e ∷ d)
+  unfolding channelBytes channelRegistersBy
   channel-registers-is c = rw (stored-is (offsetAt c), stored-is (highLimitAt c), stored-is (lowLimitAt c), stored-is (thermLimitAt c), stored-is (controlAt c))
 
-  fan-registers-is : (f : FanId) → fanRegistersAfter f (inputOf e) (fanRegistersBy f d) ≡ fanRegistersBy f (e ∷ d)
-  unfolding fanRegistersAfter fanRegistersBy
+  fan-registers-is : (f : FanId) → fanBytes (λ a was. storedAfter a (inputOf e) was) f (fanRegistersBy f d) ≡ fanRegistersBy f (e ∷ d)
+  unfolding fanBytes fanRegistersBy
   fan-registers-is f = rw (stored-is (speedAt f), stored-is (tachLimitAt f), stored-is (characteristicsAt f))
 
   pub registers-is : registersAfter (inputOf e) (registersBy d) ≡ registersBy (e ∷ d)
-  unfolding registersAfter registersBy
+  unfolding registersAfter bytes registersBy
   registers-is =
       rw (
         stored-is 0x00,

@@ -1,5 +1,5 @@
 -- The bytes that the chip stores, after an event.
-use Prim.Native.Nat.{ℕ}
+use Prim.Native.Nat.{ℕ, _%_}
 use mathlib.Core.Bool.{Bool, cond, not, _&&_, _||_}
 use mathlib.Core.List.{List, [], _∷_}
 use lib.Dec.{eqb}
@@ -32,39 +32,43 @@ storedAfter a i was =
 abbrev pub storesNothing : Input → Bool
 storesNothing i = not (isRestart i || (isA kind.Write i || isA kind.Tach i))
 
-unfoldable pub channelRegistersAfter : ChannelId → Input → ChannelRegisters → ChannelRegisters
-channelRegistersAfter c i l =
+-- every byte, from its address and the byte before
+unfoldable pub channelBytes : (next : ℕ → ℕ → ℕ) → ChannelId → ChannelRegisters → ChannelRegisters
+channelBytes next c l =
     record {
-      offset = storedAfter (offsetAt c) i (l .offset);
-      high = storedAfter (highLimitAt c) i (l .high);
-      low = storedAfter (lowLimitAt c) i (l .low);
-      therm = storedAfter (thermLimitAt c) i (l .therm);
-      control = storedAfter (controlAt c) i (l .control);
+      offset = next (offsetAt c) (l .offset);
+      high = next (highLimitAt c) (l .high);
+      low = next (lowLimitAt c) (l .low);
+      therm = next (thermLimitAt c) (l .therm);
+      control = next (controlAt c) (l .control);
     }
 
-unfoldable pub fanRegistersAfter : FanId → Input → FanRegisters → FanRegisters
-fanRegistersAfter f i b =
+unfoldable pub fanBytes : (next : ℕ → ℕ → ℕ) → FanId → FanRegisters → FanRegisters
+fanBytes next f b =
     record {
-      speed = storedAfter (speedAt f) i (b .speed);
-      limit = storedAfter (tachLimitAt f) i (b .limit);
-      characteristics = storedAfter (characteristicsAt f) i (b .characteristics);
+      speed = next (speedAt f) (b .speed);
+      limit = next (tachLimitAt f) (b .limit);
+      characteristics = next (characteristicsAt f) (b .characteristics);
+    }
+
+unfoldable pub bytes : (next : ℕ → ℕ → ℕ) → Registers → Registers
+bytes next s =
+    record {
+      config1 = next config1 (s .config1);
+      config2 = next config2 (s .config2);
+      test = next test (s .test);
+      speeds = next speeds (s .speeds);
+      filter = next filter (s .filter);
+      behaviour = next behaviour (s .behaviour);
+      local = channelBytes next Local (s .local);
+      remote1 = channelBytes next Remote1 (s .remote1);
+      remote2 = channelBytes next Remote2 (s .remote2);
+      fan1 = fanBytes next One (s .fan1);
+      fan2 = fanBytes next Two (s .fan2);
     }
 
 unfoldable pub registersAfter : Input → Registers → Registers
-registersAfter i s =
-    record {
-      config1 = storedAfter config1 i (s .config1);
-      config2 = storedAfter config2 i (s .config2);
-      test = storedAfter test i (s .test);
-      speeds = storedAfter speeds i (s .speeds);
-      filter = storedAfter filter i (s .filter);
-      behaviour = storedAfter behaviour i (s .behaviour);
-      local = channelRegistersAfter Local i (s .local);
-      remote1 = channelRegistersAfter Remote1 i (s .remote1);
-      remote2 = channelRegistersAfter Remote2 i (s .remote2);
-      fan1 = fanRegistersAfter One i (s .fan1);
-      fan2 = fanRegistersAfter Two i (s .fan2);
-    }
+registersAfter i s = bytes (λ a was. storedAfter a i was) s
 
 -- a channel's, a fan's own
 abbrev pub channelRegistersOf : Registers → ChannelId → ChannelRegisters
@@ -125,3 +129,18 @@ found (c ∷ cs) a = cond (eqb a (c .address)) (c .byte) (found cs a)
 
 unfoldable pub storedIn : Registers → (address : ℕ) → ℕ
 storedIn s a = found (cells s) a
+
+-- ---- the same said of the one byte that an event stores
+
+-- its address, 256 where it stores none; the byte that stands there then
+unfoldable pub placeIn : Input → ℕ
+placeIn i = cond (isA kind.Write i) (i .arg) (cond (isCount One i) (speedAt One) (cond (isCount Two i) (speedAt Two) 256))
+
+unfoldable pub byteFor : Input → Registers → ℕ
+byteFor i s = cond (isA kind.Write i) (mergedOf (maskAt (i .arg % 256)) (storedIn s (i .arg % 256)) (byteIn i)) (byteIn i)
+
+abbrev pub putAt : (at byte : ℕ) → (address was : ℕ) → ℕ
+putAt at byte a was = cond (eqb at a) byte was
+
+abbrev pub resetTo : (address was : ℕ) → ℕ
+resetTo a was = resetAt a

@@ -1,57 +1,37 @@
-use Rattle.stored.proofs.Laws.{together}
+use Rattle.stored.proofs.PutLaws.{restarted, put-registers}
 use borrow.Author.Needs.{needs}
 use Rattle.stored.proofs.registers_after.Statement.{statement}
 use Rattle.stored.proofs.registers_after.Tie as tie
 
-stored-after-requires : tie.Need-stored-after-requires
-stored-after-requires c κs = search needs
+is-restart-requires : tie.Need-is-restart-requires
+is-restart-requires c κs = search needs
 
-stored-after-requires-2 : tie.Need-stored-after-requires-2
-stored-after-requires-2 c κs = search needs
+reset-requires : tie.Need-reset-requires
+reset-requires c κs = search needs
 
-stored-after-requires-3 : tie.Need-stored-after-requires-3
-stored-after-requires-3 c κs = search needs
+place-in-requires : tie.Need-place-in-requires
+place-in-requires c κs = search needs
 
-stored-after-requires-4 : tie.Need-stored-after-requires-4
-stored-after-requires-4 c κs = search needs
+byte-for-requires : tie.Need-byte-for-requires
+byte-for-requires c κs = search needs
 
-stored-after-requires-5 : tie.Need-stored-after-requires-5
-stored-after-requires-5 c κs = search needs
-
-stored-after-requires-6 : tie.Need-stored-after-requires-6
-stored-after-requires-6 c κs = search needs
-
-channel-registers-after-requires : tie.Need-channel-registers-after-requires
-channel-registers-after-requires c κs = search needs
-
-channel-registers-after-requires-2 : tie.Need-channel-registers-after-requires-2
-channel-registers-after-requires-2 c κs = search needs
-
-channel-registers-after-requires-3 : tie.Need-channel-registers-after-requires-3
-channel-registers-after-requires-3 c κs = search needs
-
-fan-registers-after-requires : tie.Need-fan-registers-after-requires
-fan-registers-after-requires c κs = search needs
-
-fan-registers-after-requires-2 : tie.Need-fan-registers-after-requires-2
-fan-registers-after-requires-2 c κs = search needs
+put-requires : tie.Need-put-requires
+put-requires c κs = search needs
 
 returns : tie.Need-returns
-returns c = search (together, c .before .before .before .before .before)
+returns c = search restarted
+
+returns-2 : tie.Need-returns-2
+returns-2 c = search put-registers
 
 pub registers-after-spec : {M : Type 1} → statement M
 registers-after-spec =
     tie.close
     (tie.spec
-    stored-after-requires
-    stored-after-requires-2
-    stored-after-requires-3
-    stored-after-requires-4
-    stored-after-requires-5
-    stored-after-requires-6
-    channel-registers-after-requires
-    channel-registers-after-requires-2
-    channel-registers-after-requires-3
-    fan-registers-after-requires
-    fan-registers-after-requires-2
-    returns)
+    is-restart-requires
+    reset-requires
+    place-in-requires
+    byte-for-requires
+    put-requires
+    returns
+    returns-2)
