@@ -7,18 +7,20 @@ use Rattle.integer.proofs.BoolLaws.{both, neither}
 use Rattle.part.specs.declared.ChannelId.{ChannelId}
 use Rattle.part.specs.declared.ChannelId.the-variants.{Local, Remote1, Remote2}
 use Rattle.part.specs.declared.FanId.{FanId}
+use Rattle.part.specs.declared.FanId.the-variants.{One, Two}
 use Rattle.event.specs.declared.Kind.the-variants as kind
+use Rattle.rules.specs.Registers.{statusAt}
 use Rattle.rules.specs.Temperatures.{limitBitsIn, thermBitIn}
 use Rattle.rules.specs.Targets.{tminOf}
 use Rattle.reading.specs.Limits.{latchedOf, runningOf, isHigh, isLow}
 use Rattle.stored.specs.Stored.{channelRegistersOf}
 use Rattle.stored.specs.declared.ChannelRegisters.{ChannelRegisters}
-use Rattle.input.specs.Inputs.{isA, isSample, isRestart}
+use Rattle.input.specs.Inputs.{isA, isSample, isRead, isRestart}
 use Rattle.input.specs.declared.Input.{Input}
 use Rattle.stored.specs.declared.Context.{Context}
 use Rattle.channel.specs.Channels.{sampledIn, readingAfter, flagAtSample, latchAfter, flagAfter, channelOnIn, clearsBit, statusBitAfter}
 use Rattle.channel.specs.Channels.{highBitAfter, lowBitAfter, thermBitAfter, errorIn, errorAfter, passesBy, channelKept, channelAfter}
-use Rattle.channel.specs.Channels.{untouchedIn, channelsAfter}
+use Rattle.channel.specs.Channels.{readsStatus, untouchedIn, channelsAfter}
 use Rattle.channel.specs.declared.Channel.{Channel}
 use Rattle.channel.specs.declared.Channels.{Channels}
 
@@ -85,20 +87,23 @@ all-three m cs e1 e2 e3 = rw (e1, e2, e3)
 
 -- ---- an event that is none of any channel's
 
-and-true : (b : Bool) → b && true ≡ b
-and-true true = refl
-and-true false = refl
+module _ (m : Context) (restarts : isRestart (m .input) ≡ false) (samples : isA kind.Sample (m .input) ≡ false) (reads : readsStatus m ≡ false) where
+  unread : (f : FanId) → isRead (statusAt f) (m .pointer) (m .input) ≡ false
+  unread One = neither (isRead (statusAt One) (m .pointer) (m .input)) _ reads .0
+  unread Two = neither (isRead (statusAt One) (m .pointer) (m .input)) _ reads .1
 
-module _ (m : Context) (restarts : isRestart (m .input) ≡ false) (samples : isA kind.Sample (m .input) ≡ false) (reads : isA kind.Read (m .input) ≡ false) where
   kept : (c : ChannelId) (was : Channel) → channelOnIn c m ≡ true → was ≡ channelAfter c m was
-  kept c was on = kept-is c m was refl (rw (restarts, samples, reads)) (sym on) (rw (and-true (was .high), and-true (was .low), and-true (was .therm)))
+  unfolding channelAfter readingAfter flagAtSample latchAfter flagAfter clearsBit statusBitAfter highBitAfter lowBitAfter thermBitAfter errorAfter
+  kept c was on =
+      let p = neither (isA kind.Power (m .input)) _ restarts in
+      rw (restarts, samples, p .0, on, unread (limitBitsIn c), unread (thermBitIn c))
 
 pub left-alone : (m : Context) (cs : Channels) {b : Bool} → b ≡ untouchedIn m → b ≡ true → cs ≡ channelsAfter m cs
 left-alone m cs e t =
     let i = m .input in
-    let h = both (not (isRestart i || (isA kind.Sample i || isA kind.Read i))) _ (sym e ∙ t) in
+    let h = both (not (isRestart i || (isA kind.Sample i || readsStatus m))) _ (sym e ∙ t) in
     let n = neither (isRestart i) _ (not-true _ (h .0)) in
-    let k = neither (isA kind.Sample i) (isA kind.Read i) (n .1) in
+    let k = neither (isA kind.Sample i) (readsStatus m) (n .1) in
     let on = both (channelOnIn Local m) _ (h .1) in
     let on2 = both (channelOnIn Remote1 m) (channelOnIn Remote2 m) (on .1) in
     let stays = kept m (n .0) (k .0) (k .1) in

@@ -5,6 +5,7 @@ use lib.Dec.{eqb}
 use Rattle.part.specs.declared.ChannelId.{ChannelId}
 use Rattle.part.specs.declared.ChannelId.the-variants.{Local, Remote1, Remote2}
 use Rattle.part.specs.declared.FanId.{FanId}
+use Rattle.part.specs.declared.FanId.the-variants.{One, Two}
 use Rattle.event.specs.declared.Kind.the-variants as kind
 use Rattle.rules.specs.Registers.{statusAt}
 use Rattle.rules.specs.Fields.{channelEnabled}
@@ -99,9 +100,12 @@ channelKept on was =
     }
 
 -- an event that is none of any channel's, while all of them are enabled: it leaves them, which is proved
+abbrev pub readsStatus : Context → Bool
+readsStatus m = isRead (statusAt One) (m .pointer) (m .input) || isRead (statusAt Two) (m .pointer) (m .input)
+
 abbrev pub untouchedIn : Context → Bool
 untouchedIn m =
-    not (isRestart (m .input) || (isA kind.Sample (m .input) || isA kind.Read (m .input)))
+    not (isRestart (m .input) || (isA kind.Sample (m .input) || readsStatus m))
     && (channelOnIn Local m && (channelOnIn Remote1 m && channelOnIn Remote2 m))
 
 -- the three channels

@@ -5,11 +5,12 @@ mod status;
 use event::Kind;
 use input::Input;
 use part::ChannelId;
+use part::FanId;
 use stored::Context;
 ghost use mathlib.Core.Path.{_≡_};
 ghost use Rattle.rules.specs.Targets.{tminOf};
 ghost use Rattle.channel.specs.Channels.{sampledIn, readingAfter, flagAtSample, channelOnIn, errorIn, errorAfter, passesBy};
-ghost use Rattle.channel.specs.Channels.{channelKept, channelAfter, untouchedIn, channelsAfter, thermOf};
+ghost use Rattle.channel.specs.Channels.{channelKept, channelAfter, readsStatus, untouchedIn, channelsAfter, thermOf};
 
 // The last reading, the THERM latch and the run flag; then the high, low and THERM status bits, and the diode error.
 pub struct Channel {
@@ -145,12 +146,20 @@ fn channel_after(c: ChannelId, m: Context, was: Channel) -> Channel
     }
 }
 
+// A read of either status register.
+fn reads_status(m: Context) -> bool
+    ensures { λ b. ⌜ b ≡ readsStatus m ⌝ }
+{
+    input::is_read(stored::status_at(FanId::One), m.pointer, m.input)
+        | input::is_read(stored::status_at(FanId::Two), m.pointer, m.input)
+}
+
 // An event that is none of any channel's, while all of them are enabled.
 fn untouched(m: Context) -> bool
     ensures { λ b. ⌜ b ≡ untouchedIn m ⌝ }
 {
     let none = !(input::is_restart(m.input)
-        | (input::is_a(Kind::Sample, m.input) | input::is_a(Kind::Read, m.input)));
+        | (input::is_a(Kind::Sample, m.input) | reads_status(m)));
     none
         & (is_on(ChannelId::Local, m)
             & (is_on(ChannelId::Remote1, m) & is_on(ChannelId::Remote2, m)))
