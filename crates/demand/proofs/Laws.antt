@@ -1,6 +1,6 @@
 -- What the proofs of the functions cite: each case of a rule, over plain values. Assumes nothing.
-use Prim.Native.Nat.{ℕ, _+_, _*_, _/_, _%_, _<_, min, max}
-use mathlib.Core.Path.{_≡_, sym, _∙_}
+use Prim.Native.Nat.{ℕ, _+_, _*_, _/_, _%_, _<_, min}
+use mathlib.Core.Path.{_≡_}
 use mathlib.Core.Bool.{Bool, true, false, cond}
 use mathlib.Core.List.{[], _∷_}
 use native.Mathlib.Nat.{div-le-self}
@@ -8,14 +8,12 @@ use native.Mathlib.Omega.{arith}
 use borrow.Author.Tests.{ne-eqb}
 use mir.Syntax.{w8, w32}
 use mir.Val.{Fits}
-use Rattle.integer.specs.Bits.{bitOf}
 use Rattle.integer.proofs.CodeLaws.{NoneBelow, rest-is}
 use Rattle.part.specs.declared.ChannelId.{ChannelId}
-use Rattle.part.specs.declared.ChannelId.the-variants.{Local, Remote1, Remote2}
 use Rattle.part.specs.declared.FanId.{FanId}
 use Rattle.part.specs.declared.FanId.the-variants.{One, Two}
-use Rattle.rules.specs.Fields.{assignment, speedCode}
-use Rattle.rules.specs.Targets.{rangeOf, isOwn, isRemote1, isRemote2, assignedBy, demandIf, targetOf}
+use Rattle.rules.specs.Fields.{speedCode}
+use Rattle.rules.specs.Targets.{rangeOf, isOwn, isRemote1, isRemote2, assignedBy}
 use Rattle.demand.specs.Demand.{slopeOf}
 
 -- the quotient 20 x / R, by the range code
@@ -52,6 +50,9 @@ module _ (flag : Bool) (m range x : ℕ) where
   pub demand-off : flag ≡ false → 0 ≡ cond flag (min 240 (16 * m + slopeOf x range)) 0
   demand-off f = simp f
 
+pub asked-on : {assigned : Bool} {r x : ℕ} → assigned ≡ true → r ≡ x → r ≡ cond assigned x 0
+asked-on t e = rw t e
+
 module _ (fan : FanId) (speeds : ℕ) where
   pub code-one : fan ≡ One → speeds % 16 ≡ speedCode fan speeds
   code-one e = rw e
@@ -83,14 +84,3 @@ module _ (a : ℕ) (fan : FanId) (channel : ChannelId) where
   pub assigned-all : NoneBelow 3 a → true ≡ assignedBy a fan channel
   unfolding assignedBy
   assigned-all h = simp (ne-eqb a 0 (h .0 .0 .1), ne-eqb a 1 (h .0 .1), ne-eqb a 2 (h .1))
-
-module _ (config1 speeds : ℕ) (fan : FanId) (local remote1 remote2 : ℕ) {on : Bool} (e : on ≡ bitOf config1 7) where
-  pub target-auto : {x y z m n : ℕ} {f g h : Bool} → on ≡ true → n ≡ max x m → m ≡ max y z → x ≡ demandIf f local
-      → f ≡ assignedBy (assignment config1) fan Local → y ≡ demandIf g remote1 → g ≡ assignedBy (assignment config1) fan Remote1 → z ≡ demandIf h remote2
-      → h ≡ assignedBy (assignment config1) fan Remote2 → n ≡ targetOf config1 speeds fan local remote1 remote2
-  unfolding targetOf
-  target-auto t n m x f y g z h = simp (sym e ∙ t, n, m, x, f, y, g, z, h)
-
-  pub target-set : {n : ℕ} → on ≡ false → n ≡ speedCode fan speeds → 16 * n ≡ targetOf config1 speeds fan local remote1 remote2
-  unfolding targetOf
-  target-set t n = simp (sym e ∙ t, n)

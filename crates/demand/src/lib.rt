@@ -5,7 +5,7 @@ use part::FanId;
 ghost use mathlib.Core.Path.{_≡_};
 ghost use Prim.Native.Nat.{_+_, _-_, _*_, min, max};
 ghost use Rattle.rules.specs.Fields.{speedCode};
-ghost use Rattle.rules.specs.Targets.{tminOf, rangeOf, isOwn, isRemote1, isRemote2, assignedBy, demandIf, targetOf};
+ghost use Rattle.rules.specs.Targets.{tminOf, rangeOf, isOwn, isRemote1, isRemote2, assignedBy, demandIf};
 ghost use Rattle.demand.specs.Demand.{slopeOf, demandOf, overriddenOf};
 
 // The slots that a reading this far above Tmin adds: 20 / R is 4, 2, 1, 1/2, 1/4.
@@ -37,11 +37,22 @@ fn at_most_240(slots: u32) -> u8
 }
 
 // What a channel demands of a fan with minimum code m.
-pub fn demand(flag: bool, m: u8, control: u8, reading: u16) -> u8
+fn demand(flag: bool, m: u8, control: u8, reading: u16) -> u8
     ensures { λ r. ⌜ r ≡ demandOf flag m (tminOf control) (rangeOf control) reading ⌝ }
 {
     if flag {
         at_most_240(16 * m as u32 + slope(above_tmin(reading, control), control))
+    } else {
+        0
+    }
+}
+
+// What it asks of a fan that it is assigned to; of another nothing, and its demand is not worked out then.
+pub fn asked(assigned: bool, flag: bool, m: u8, control: u8, reading: u16) -> u8
+    ensures { λ r. ⌜ r ≡ demandIf assigned (demandOf flag m (tminOf control) (rangeOf control) reading) ⌝ }
+{
+    if assigned {
+        demand(flag, m, control, reading)
     } else {
         0
     }
@@ -97,34 +108,23 @@ fn is_remote2(channel: ChannelId) -> bool
     }
 }
 
-fn demand_if(assigned: bool, demand: u8) -> u8
-    ensures { λ r. ⌜ r ≡ demandIf assigned demand ⌝ }
-{
-    if assigned { demand } else { 0 }
-}
-
 fn larger(a: u8, b: u8) -> u8
     ensures { λ r. ⌜ r ≡ max a b ⌝ }
 {
     if a < b { b } else { a }
 }
 
-// The duty that a fan is to have, from the demands of the three channels.
-pub fn target(config1: u8, speeds: u8, fan: FanId, local: u8, remote1: u8, remote2: u8) -> u8
-    ensures { λ r. ⌜ r ≡ targetOf config1 speeds fan local remote1 remote2 ⌝ }
+// The target in automatic mode, from what the channels ask; and in manual mode.
+pub fn largest(local: u8, remote1: u8, remote2: u8) -> u8
+    ensures { λ r. ⌜ r ≡ max local (max remote1 remote2) ⌝ }
 {
-    if integer::bit(config1, 7) {
-        let assignment = config1 / 32 % 4;
-        larger(
-            demand_if(assigned(assignment, fan, ChannelId::Local), local),
-            larger(
-                demand_if(assigned(assignment, fan, ChannelId::Remote1), remote1),
-                demand_if(assigned(assignment, fan, ChannelId::Remote2), remote2),
-            ),
-        )
-    } else {
-        16 * speed_code(fan, speeds)
-    }
+    larger(local, larger(remote1, remote2))
+}
+
+pub fn manual(fan: FanId, speeds: u8) -> u8
+    ensures { λ r. ⌜ r ≡ 16 * speedCode fan speeds ⌝ }
+{
+    16 * speed_code(fan, speeds)
 }
 
 pub fn overridden(pin_low: bool, behaviour: u8, therm: bool) -> bool

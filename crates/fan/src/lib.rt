@@ -7,12 +7,18 @@ use drive::FanInput;
 use drive::Setting;
 use event::Kind;
 use input::Input;
+use part::ChannelId;
 use part::FanId;
 use stored::ChannelRegisters;
 use stored::Context;
 use stored::Registers;
 ghost use mathlib.Core.Path.{_≡_};
-ghost use Rattle.fan.specs.Fans.{channelDemand, fanTarget, settingOf, priorFan, judgesFan, failsFan, fanInputOf, fanRun, fanUnder, fanAfter};
+ghost use Rattle.rules.specs.Fields.{assignment};
+ghost use Rattle.rules.specs.Targets.{assignedBy, demandIf};
+ghost use Rattle.drive.specs.Tach.{failedOf};
+ghost use Rattle.input.specs.Inputs.{byteIn};
+ghost use Rattle.stored.specs.Stored.{fanRegistersOf};
+ghost use Rattle.fan.specs.Fans.{channelDemand, fanTarget, settingOf, priorFan, judgesFan, fanInputOf, fanRun, fanUnder, fanAfter};
 
 // Duty and spin-up, run of failures, whether it is at alarm speed; then the alarm and fault status bits.
 pub struct Fan {
@@ -23,28 +29,32 @@ pub struct Fan {
     pub fault: bool,
 }
 
-fn channel_demand(f: FanId, speeds: u8, l: ChannelRegisters, ch: Channel) -> u8
-    ensures { λ r. ⌜ r ≡ channelDemand f speeds l ch ⌝ }
+// What a channel asks of a fan in automatic mode.
+fn channel_asked(f: FanId, c: ChannelId, s: Registers, l: ChannelRegisters, ch: Channel) -> u8
+    ensures { λ r. ⌜ r ≡ demandIf (assignedBy (assignment (s .config1)) f c) (channelDemand f (s .speeds) l ch) ⌝ }
 {
-    demand::demand(
+    demand::asked(
+        demand::assigned(s.config1 / 32 % 4, f, c),
         ch.flag,
-        demand::speed_code(f, speeds),
+        demand::speed_code(f, s.speeds),
         l.control,
         ch.reading,
     )
 }
 
+// The duty that a fan is to have.
 fn fan_target(f: FanId, s: Registers, cs: Channels) -> u8
     ensures { λ r. ⌜ r ≡ fanTarget f s cs ⌝ }
 {
-    demand::target(
-        s.config1,
-        s.speeds,
-        f,
-        channel_demand(f, s.speeds, s.local, cs.local),
-        channel_demand(f, s.speeds, s.remote1, cs.remote1),
-        channel_demand(f, s.speeds, s.remote2, cs.remote2),
-    )
+    if integer::bit(s.config1, 7) {
+        demand::largest(
+            channel_asked(f, ChannelId::Local, s, s.local, cs.local),
+            channel_asked(f, ChannelId::Remote1, s, s.remote1, cs.remote1),
+            channel_asked(f, ChannelId::Remote2, s, s.remote2, cs.remote2),
+        )
+    } else {
+        demand::manual(f, s.speeds)
+    }
 }
 
 // What registers, pin and channels ask of a fan.
@@ -79,19 +89,22 @@ fn prior(i: Input, was: Fan) -> Fan
     }
 }
 
-// Whether the event is a judged count of the fan, and a failure.
+// Whether the event is a judged count of the fan, and then whether it is a failure.
 fn judges(f: FanId, m: Context, d: Drive) -> bool
     ensures { λ b. ⌜ b ≡ judgesFan f m d ⌝ }
 {
-    let tach = stored::tach_enabled(f, m.registers.config2);
-    input::is_count(f, m.input) & drive::judged(tach, d)
+    if input::is_count(f, m.input) {
+        drive::judged(stored::tach_enabled(f, m.registers.config2), d)
+    } else {
+        false
+    }
 }
 
-fn fails(f: FanId, m: Context, d: Drive) -> bool
-    ensures { λ b. ⌜ b ≡ failsFan f m d ⌝ }
+fn fails(f: FanId, m: Context, judged: bool) -> bool
+    ensures { λ b. ⌜ b ≡ failedOf judged (fanRegistersOf (m .registers) f .limit) (byteIn (m .input)) ⌝ }
 {
     let own = stored::fan_registers_of(m.registers, f);
-    drive::failed(judges(f, m, d), own.limit, input::byte_in(m.input))
+    drive::failed(judged, own.limit, input::byte_in(m.input))
 }
 
 fn fan_input(f: FanId, failed: bool, i: Input) -> FanInput
@@ -118,13 +131,14 @@ fn run_after(tach: bool, judged: bool, failed: bool, was: u8) -> u8
 fn fan_under(f: FanId, s: Setting, m: Context, w: Fan) -> Fan
     ensures { λ b. ⌜ b ≡ fanUnder f s m w ⌝ }
 {
-    let failed = fails(f, m, w.drive);
+    let judged = judges(f, m, w.drive);
+    let failed = fails(f, m, judged);
     let alarmed = drive::at_alarm(s);
     let read = input::is_read(stored::status_at(f), m.pointer, m.input);
     let tach = stored::tach_enabled(f, m.registers.config2);
     Fan {
         drive: drive::driven(s, fan_input(f, failed, m.input), w.drive),
-        run: run_after(tach, judges(f, m, w.drive), failed, w.run),
+        run: run_after(tach, judged, failed, w.run),
         alarmed,
         alarm: input::bit_after(alarmed & !w.alarmed, read, w.alarm),
         fault: input::bit_after(failed, read, w.fault),

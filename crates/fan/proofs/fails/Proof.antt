@@ -5,9 +5,6 @@ use Rattle.fan.proofs.fails.Tie as tie
 fan-registers-of-requires : tie.Need-fan-registers-of-requires
 fan-registers-of-requires c κs = search needs
 
-judges-requires : tie.Need-judges-requires
-judges-requires c κs = search needs
-
 byte-in-requires : tie.Need-byte-in-requires
 byte-in-requires c κs = search needs
 
@@ -19,5 +16,4 @@ returns c = cc
 
 pub fails-spec : {M : Type 1} → statement M
 fails-spec =
-    tie.close
-    (tie.spec fan-registers-of-requires judges-requires byte-in-requires failed-requires returns)
+    tie.close (tie.spec fan-registers-of-requires byte-in-requires failed-requires returns)

@@ -3,6 +3,9 @@ use borrow.Author.Needs.{needs}
 use Rattle.fan.proofs.fan_under.Statement.{statement}
 use Rattle.fan.proofs.fan_under.Tie as tie
 
+judges-requires : tie.Need-judges-requires
+judges-requires c κs = search needs
+
 fails-requires : tie.Need-fails-requires
 fails-requires c κs = search needs
 
@@ -24,9 +27,6 @@ fan-input-requires c κs = search needs
 driven-requires : tie.Need-driven-requires
 driven-requires c κs = search needs
 
-judges-requires : tie.Need-judges-requires
-judges-requires c κs = search needs
-
 run-after-requires : tie.Need-run-after-requires
 run-after-requires c κs = search needs
 
@@ -43,6 +43,7 @@ pub fan-under-spec : {M : Type 1} → statement M
 fan-under-spec =
     tie.close
     (tie.spec
+    judges-requires
     fails-requires
     at-alarm-requires
     status-at-requires
@@ -50,7 +51,6 @@ fan-under-spec =
     tach-enabled-requires
     fan-input-requires
     driven-requires
-    judges-requires
     run-after-requires
     bit-after-requires
     bit-after-requires-2
