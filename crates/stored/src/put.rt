@@ -81,6 +81,11 @@ fn fan_put(at: u32, byte: u8, f: FanId, b: FanRegisters) -> FanRegisters
 pub fn put(at: u32, byte: u8, s: Registers) -> Registers
     ensures { λ b. ⌜ b ≡ bytes (putAt at byte) s ⌝ }
 {
+    let local = channel_put(at, byte, ChannelId::Local, s.local);
+    let remote1 = channel_put(at, byte, ChannelId::Remote1, s.remote1);
+    let remote2 = channel_put(at, byte, ChannelId::Remote2, s.remote2);
+    let fan1 = fan_put(at, byte, FanId::One, s.fan1);
+    let fan2 = fan_put(at, byte, FanId::Two, s.fan2);
     Registers {
         config1: put_at(at, byte, 0x00, s.config1),
         config2: put_at(at, byte, 0x01, s.config2),
@@ -88,10 +93,10 @@ pub fn put(at: u32, byte: u8, s: Registers) -> Registers
         speeds: put_at(at, byte, 0x22, s.speeds),
         filter: put_at(at, byte, 0x23, s.filter),
         behaviour: put_at(at, byte, 0x3F, s.behaviour),
-        local: channel_put(at, byte, ChannelId::Local, s.local),
-        remote1: channel_put(at, byte, ChannelId::Remote1, s.remote1),
-        remote2: channel_put(at, byte, ChannelId::Remote2, s.remote2),
-        fan1: fan_put(at, byte, FanId::One, s.fan1),
-        fan2: fan_put(at, byte, FanId::Two, s.fan2),
+        local,
+        remote1,
+        remote2,
+        fan1,
+        fan2,
     }
 }

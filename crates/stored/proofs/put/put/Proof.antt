@@ -37,21 +37,21 @@ fan-put-requires-2 : tie.Need-fan-put-requires-2
 fan-put-requires-2 c κs = search needs
 
 returns : tie.Need-returns
-returns c = search (together, c .before .before .before .before .before)
+returns c = search together
 
 pub put-spec : {M : Type 1} → statement M
 put-spec =
     tie.close
     (tie.spec
+    channel-put-requires
+    channel-put-requires-2
+    channel-put-requires-3
+    fan-put-requires
+    fan-put-requires-2
     put-at-requires
     put-at-requires-2
     put-at-requires-3
     put-at-requires-4
     put-at-requires-5
     put-at-requires-6
-    channel-put-requires
-    channel-put-requires-2
-    channel-put-requires-3
-    fan-put-requires
-    fan-put-requires-2
     returns)

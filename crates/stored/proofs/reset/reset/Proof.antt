@@ -37,7 +37,7 @@ fan-reset-requires-2 : tie.Need-fan-reset-requires-2
 fan-reset-requires-2 c κs = search needs
 
 returns : tie.Need-returns
-returns c = search (together, c .before .before .before .before .before)
+returns c = search together
 
 pub reset-spec : {M : Type 1} → statement M
 reset-spec =
