@@ -1,7 +1,7 @@
 -- Laws of bytes that stand in a text at an index. Assumes nothing.
 use Prim.Native.Nat.{ℕ, _+_, _-_, _≤_, _<_}
 use mathlib.Core.Path.{_≡_, refl, sym, ap, _∙_}
-use mathlib.Core.Bool.{Bool, true, false}
+use mathlib.Core.Bool.{Bool, true, false, cond}
 use mathlib.Core.List.{List, [], _∷_, _++_}
 use native.Mathlib.Omega.{arith}
 use lib.Dec.{leb, eqb}
@@ -10,6 +10,7 @@ use lib.Seq.{take-append-seam}
 use borrow.Author.Tests.{le-leb, lt-leb, leb-true, leb-false, ne-eqb}
 use Rattle.line.specs.Line.{sameBytes}
 use Rattle.line.proofs.Bytes.{same-self, same-then, same-lengths}
+use Rattle.trace.specs.Trace.{standing}
 
 -- ---- enough bytes
 
@@ -41,6 +42,15 @@ module _ (m at n : ℕ) {t : Bool} (e : t ≡ leb (at + n) m) (h : t ≡ true) w
   byte-fits l l′ = omega (arith, reached)
 
 -- ---- the same bytes
+
+-- a count that is 0 unless a test is true
+counted : (t : Bool) (m : ℕ) {n : ℕ} → n ≡ cond t m 0 → 0 < n → (t ≡ true) × (n ≡ m)
+counted true m e y = (refl, e)
+counted false m e y = absurd (omega arith)
+
+uncounted : (t : Bool) (m : ℕ) {n : ℕ} → n ≡ cond t m 0 → 0 < m → n ≤ 0 → t ≡ false
+uncounted true m e l z = absurd (omega arith)
+uncounted false m e l z = refl
 
 module _ (b s : List ℕ) (at : ℕ) where
   pub part-same : {r : Bool} → r ≡ sameBytes (take (at + length b - at) (drop at s)) b → r ≡ sameBytes (take (length b) (drop at s)) b
@@ -75,3 +85,25 @@ module _ (b s : List ℕ) (at : ℕ) where
     stands-fits h p q =
         let n : length (take (length b) (drop at s)) ≡ length b = ap length (same-then (take (length b) (drop at s)) b (sym e ∙ h)) in
         omega (arith, length-take (length b) (drop at s), length-drop at s)
+
+  -- how many they are, if they stand there
+  pub standing-all : take (length b) (drop at s) ≡ b → length b ≡ standing b s at
+  unfolding standing
+  standing-all q = rw (q, same-self b)
+
+  pub standing-none : (take (length b) (drop at s) ≡ b → ⊥) → 0 ≡ standing b s at
+  unfolding standing
+  standing-none n = go (sameBytes (take (length b) (drop at s)) b) refl
+    where
+      go : (t : Bool) → sameBytes (take (length b) (drop at s)) b ≡ t → 0 ≡ cond t (length b) 0
+      go true e = absurd (n (same-then (take (length b) (drop at s)) b e))
+      go false e = refl
+
+  module _ {n : ℕ} (e : n ≡ standing b s at) where
+    pub standing-then : 0 < n → (sameBytes (take (length b) (drop at s)) b ≡ true) × (n ≡ length b)
+    unfolding standing
+    standing-then = counted (sameBytes (take (length b) (drop at s)) b) (length b) e
+
+    pub standing-not : 0 < length b → n ≤ 0 → sameBytes (take (length b) (drop at s)) b ≡ false
+    unfolding standing
+    standing-not = uncounted (sameBytes (take (length b) (drop at s)) b) (length b) e

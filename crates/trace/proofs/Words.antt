@@ -1,25 +1,26 @@
 -- Laws of the table of kinds and of the lines that name a kind, in `specs/Words.antt`. Assumes nothing.
 use Prim.Native.Nat.{ℕ, _+_, _-_, _*_, _≤_, _<_}
 use mathlib.Core.Path.{_≡_, refl, sym, ap, _∙_}
-use mathlib.Core.Bool.{Bool, true, false, _&&_}
-use mathlib.Core.List.{List, _++_}
+use mathlib.Core.Bool.{Bool, true, false, cond, _&&_}
+use mathlib.Core.List.{List, [], _∷_, _++_}
 use native.Mathlib.Omega.{arith}
+use native.Mathlib.Numerals.{add-one}
 use borrow.Author.Count.{below-more}
-use borrow.Author.Tests.{eqb-true, leb-true, leb-false, ltb-true, ltb-false}
+use borrow.Author.Tests.{eq-eqb, ne-eqb, eqb-true, leb-true, leb-false, ltb-true, ltb-false}
 use lib.Dec.{leb, ltb, eqb}
-use lib.ListN.{length, getD, take, drop, length-append, length-drop, take-append-drop}
-use lib.Seq.{getD-drop}
+use lib.ListN.{length, getD, take, drop, length-append, length-take, length-drop, take-append-drop}
+use lib.Seq.{getD-take, getD-drop, take-suc, take-length}
 use Rattle.integer.proofs.BoolLaws.{both}
 use Rattle.event.specs.declared.Kind.{Kind}
 use Rattle.event.specs.Kinds.{kinds, kindAt, placeOf}
 use Rattle.event.proofs.Laws.{passes, passed, kind-back, place-small}
-use Rattle.line.specs.Line.{sameBytes, firstLine, lineAt, endAt}
+use Rattle.line.specs.Line.{sameBytes, firstLine, lineAt}
 use Rattle.line.proofs.Bytes.{same-then}
 use Rattle.trace.specs.declared.Named.{Named}
 use Rattle.trace.specs.declared.Named.the-variants as named
 use Rattle.trace.specs.Words.{kindText, kindTable, kindLine}
-use Rattle.trace.specs.Trace.{ended}
-use Rattle.trace.proofs.Places.{stands-then, stands-not, stands-fits}
+use Rattle.trace.specs.Trace.{ended, standing}
+use Rattle.trace.proofs.Places.{stands-then, stands-not, stands-fits, standing-all, standing-none, standing-then, standing-not}
 use Rattle.trace.proofs.Canonical.{NamedStands, kind-stands}
 use Rattle.trace.proofs.RoundTrip.{kind-line}
 
@@ -41,55 +42,104 @@ slot-line p h = same-then (lineAt kindTable (12 * p)) (kindText (kindAt p)) (pas
 abbrev lineOf : ℕ → List ℕ
 lineOf p = ended (kindText (kindAt p))
 
--- a slice of so many bytes
-abbrev bytesAt : List ℕ → (start n : ℕ) → List ℕ
-bytesAt table start n = take (start + n - start) (drop start table)
+-- it ends behind its byte i if that is a newline, and else goes on
+endsBy : (p i : ℕ) → Bool
+endsBy p i = cond (eqb (getD (lineOf p) i 0) 10) (eqb (i + 1) (length (lineOf p))) (ltb (i + 1) (length (lineOf p)))
 
--- it stands at the start of its slot, within the table, and ends where a newline is found behind its first eight bytes
+-- it stands at the start of its slot, within the table, and its last byte is its only newline
 rowOf : ℕ → Bool
 rowOf p =
-    let end : ℕ = 12 * p + length (lineOf p) in
-    sameBytes (take (length (lineOf p)) (drop (12 * p) kindTable)) (lineOf p) && (eqb (endAt kindTable (12 * p + 8) + 1) end && leb end (12 * length kinds))
+    let n : ℕ = length (lineOf p) in
+    sameBytes (take n (drop (12 * p) kindTable)) (lineOf p) && (leb (12 * p + n) (12 * length kinds) && passes (endsBy p) n)
 
 rows : passes rowOf (length kinds) ≡ true
-unfolding passes rowOf kindTable endAt lineAt firstLine sameBytes
+unfolding passes rowOf endsBy kindTable sameBytes
 rows = refl
 
-module _ (p : ℕ) (h : p < length kinds) (table : List ℕ) (ht : table ≡ kindTable) where
-  row : (take (length (lineOf p)) (drop (12 * p) table) ≡ lineOf p)
-      × (endAt table (12 * p + 8) + 1 ≡ 12 * p + length (lineOf p))
-      × (12 * p + length (lineOf p) ≤ 12 * length kinds)
-  unfolding rowOf
-  row =
-      let bytes : List ℕ = take (length (lineOf p)) (drop (12 * p) kindTable) in
-      let next : ℕ = endAt kindTable (12 * p + 8) + 1 in
-      let end : ℕ = 12 * p + length (lineOf p) in
-      let t = both (sameBytes bytes (lineOf p)) (eqb next end && leb end (12 * length kinds)) (passed rowOf (length kinds) rows p h) in
-      let u = both (eqb next end) (leb end (12 * length kinds)) (t .1) in
-      rw ht (same-then bytes (lineOf p) (t .0), eqb-true next end (u .0), leb-true end (12 * length kinds) (u .1))
+row : (p : ℕ) → p < length kinds
+    → (take (length (lineOf p)) (drop (12 * p) kindTable) ≡ lineOf p)
+    × (12 * p + length (lineOf p) ≤ 12 * length kinds)
+    × ((i : ℕ) → i < length (lineOf p) → endsBy p i ≡ true)
+unfolding rowOf
+row p h =
+    let n : ℕ = length (lineOf p) in
+    let bytes : List ℕ = take n (drop (12 * p) kindTable) in
+    let t = both (sameBytes bytes (lineOf p)) (leb (12 * p + n) (12 * length kinds) && passes (endsBy p) n) (passed rowOf (length kinds) rows p h) in
+    let u = both (leb (12 * p + n) (12 * length kinds)) (passes (endsBy p) n) (t .1) in
+    (same-then bytes (lineOf p) (t .0), leb-true (12 * p + n) (12 * length kinds) (u .0), passed (endsBy p) n (u .1))
 
-  -- where it ends, and so how long it is
-  module _ {e : ℕ} (he : e ≡ endAt table (12 * p + 8)) where
-    pub row-start : 12 * p ≤ e + 1
-    row-start = omega (arith, row .1, he)
+-- kind= and a word: the shortest is pin
+isLong : ℕ → Bool
+isLong p = leb 8 (length (kindText (kindAt p)))
 
-    pub row-fits : {m : ℕ} → 12 * length kinds < m → e + 1 < m
-    row-fits l = omega (arith, row .1, row .2, he)
+longs : passes isLong (length kinds) ≡ true
+unfolding passes isLong
+longs = refl
 
-    pub row-length : e + 1 - 12 * p ≡ length (lineOf p)
-    row-length = omega (arith, row .1, he)
+pub kind-long : (k : Kind) → 8 ≤ length (kindText k)
+unfolding isLong
+kind-long k = leb-true 8 (length (kindText k)) (rw (kind-back k) at (passed isLong (length kinds) longs (placeOf k) (place-small k)))
 
-  -- its bytes
-  module _ {n : ℕ} (hn : n ≡ length (lineOf p)) where
-    pub row-end : 12 * p + n ≤ length table
-    unfolding kindTable
-    row-end = rw (ht, hn) (row .2)
+-- ---- its bytes compared with those of the text, one by one
 
-    pub bytes-fit : {m : ℕ} → 12 * length kinds < m → 12 * p + n < m
-    bytes-fit l = omega (arith, row .2, hn)
+-- the first j, and these are not all, are those of the text at an index
+abbrev pub Matched : (p : ℕ) (s : List ℕ) (at j : ℕ) → Type 0
+Matched p s at j = (j < length (lineOf p)) × (take j (drop at s) ≡ take j (lineOf p))
 
-    row-is : bytesAt table (12 * p) n ≡ lineOf p
-    row-is = let q : 12 * p + length (lineOf p) - 12 * p ≡ length (lineOf p) = omega arith in rw (hn, q) (row .0)
+pub matched-none : (p : ℕ) (s : List ℕ) (at : ℕ) → Matched p s at 0
+matched-none p s at = (omega arith, refl)
+
+module _ (p : ℕ) (s : List ℕ) (at j : ℕ) (h : p < length kinds) (inv : Matched p s at j) where
+  pub byte-within : {m : ℕ} → 12 * length kinds ≤ m → 12 * p + j < m
+  byte-within l = omega (arith, row p h .1)
+
+  -- the text ends before the line
+  pub matched-short : length s - at ≤ j → 0 ≡ standing (lineOf p) s at
+  matched-short l =
+      let n : ℕ = length (lineOf p) in
+      standing-none (lineOf p) s at (λ q. omega (arith, inv .0, ap length q, length-take n (drop at s), length-drop at s))
+
+  module _ (table : List ℕ) (ht : table ≡ kindTable) where
+    slot-byte : getD table (12 * p + j) 0 ≡ getD (lineOf p) j 0
+    slot-byte =
+        let n : ℕ = length (lineOf p) in
+        let t = getD-take n (drop (12 * p) kindTable) j 0 (inv .0) in
+        rw ht (sym (t ∙ getD-drop (12 * p) kindTable j 0)) ∙ ap (λ (l : List ℕ). getD l j 0) (row p h .0)
+
+    pub matched-other : (getD table (12 * p + j) 0 ≡ getD s (at + j) 0 → ⊥) → 0 ≡ standing (lineOf p) s at
+    matched-other other =
+        let n : ℕ = length (lineOf p) in
+        let t = getD-take n (drop at s) j 0 (inv .0) in
+        standing-none (lineOf p) s at (λ q. other (slot-byte ∙ sym (ap (λ (l : List ℕ). getD l j 0) q) ∙ t ∙ getD-drop at s j 0))
+
+    -- the next byte is the same
+    module _ (l : j < length s - at) (e : getD table (12 * p + j) 0 ≡ getD s (at + j) 0) where
+      byte-same : getD s (at + j) 0 ≡ getD (lineOf p) j 0
+      byte-same = sym e ∙ slot-byte
+
+      one-more : take (j + 1) (drop at s) ≡ take (j + 1) (lineOf p)
+      one-more =
+          let t = take-suc (drop at s) j 0 (simp length-drop (omega arith)) in
+          let u = take-suc (lineOf p) j 0 (inv .0) in
+          rw (add-one, t, u, inv .1, getD-drop at s j 0, byte-same)
+
+      pub matched-all : getD s (at + j) 0 ≡ 10 → j + 1 ≡ standing (lineOf p) s at
+      unfolding endsBy
+      matched-all y =
+          let n : ℕ = length (lineOf p) in
+          let last : j + 1 ≡ n = eqb-true (j + 1) n (rw (eq-eqb (getD (lineOf p) j 0) 10 (sym byte-same ∙ y)) at (row p h .2 j (inv .0))) in
+          let q : take n (drop at s) ≡ take n (lineOf p) = rw last at one-more in
+          last ∙ standing-all (lineOf p) s at (q ∙ take-length (lineOf p))
+
+      pub matched-more : (getD s (at + j) 0 ≡ 10 → ⊥) → Matched p s at (j + 1)
+      unfolding endsBy
+      matched-more n =
+          let t = rw (ne-eqb (getD (lineOf p) j 0) 10 (λ y. n (byte-same ∙ y))) at (row p h .2 j (inv .0)) in
+          (ltb-true (j + 1) (length (lineOf p)) t, one-more)
+
+    -- one of the first eight is the same
+    pub matched-early : at + 9 ≤ length s → j < 8 → getD table (12 * p + j) 0 ≡ getD s (at + j) 0 → Matched p s at (j + 1)
+    matched-early l f e = (omega (arith, kind-long (kindAt p), length-append (kindText (kindAt p)) (10 ∷ [])), one-more (omega arith) e)
 
 -- ---- the byte behind its first eight
 
@@ -117,18 +167,6 @@ unfolding ninthOf
 line-ninth p h after = eqb-true (getD (lineOf p ++ after) 8 0) (ninth p) (passed (ninthOf after) (length kinds) (ninths after) p h)
 
 -- ---- a kind's line in the text
-
--- kind= and a word: the shortest is pin
-isLong : ℕ → Bool
-isLong p = leb 8 (length (kindText (kindAt p)))
-
-longs : passes isLong (length kinds) ≡ true
-unfolding passes isLong
-longs = refl
-
-pub kind-long : (k : Kind) → 8 ≤ length (kindText k)
-unfolding isLong
-kind-long k = leb-true 8 (length (kindText k)) (rw (kind-back k) at (passed isLong (length kinds) longs (placeOf k) (place-small k)))
 
 module _ (s : List ℕ) (at : ℕ) where
   -- the line is wrong if no kind's line stands there
@@ -167,20 +205,18 @@ module _ (s : List ℕ) (at : ℕ) where
   first-passed = other-bytes 0 (λ p h. absurd (omega arith))
 
   -- the line at a place, compared with the text there
-  module _ (place : ℕ) {n : ℕ} {table : List ℕ} {r : Bool} (h : place < length kinds) (ht : table ≡ kindTable) (hn : n ≡ length (lineOf place))
-      (e : r ≡ sameBytes (take (length (bytesAt table (12 * place) n)) (drop at s)) (bytesAt table (12 * place) n)) where
-    compared : r ≡ sameBytes (take (length (lineOf place)) (drop at s)) (lineOf place)
-    compared = rw (row-is place h table ht hn) at e
-
-    pub next-passed : r ≡ false → Passed place → {to : ℕ} → to ≤ length kinds → Lacking (getD s (at + 8) 0) (place + 1) to → Passed to
-    next-passed f before =
-        let other = stands-not (lineOf place) s at compared f in
+  module _ (place : ℕ) {n : ℕ} (e : n ≡ standing (lineOf place) s at) where
+    pub next-passed : n ≤ 0 → Passed place → {to : ℕ} → to ≤ length kinds → Lacking (getD s (at + 8) 0) (place + 1) to → Passed to
+    next-passed z before =
+        let other = stands-not (lineOf place) s at refl (standing-not (lineOf place) s at e (omega arith) z) in
         other-bytes (place + 1) (below-more (λ p. (after : List ℕ) → drop at s ≡ lineOf p ++ after → ⊥) place before other)
 
-    pub kind-found : {k : Kind} → r ≡ true → k ≡ kindAt place → named.Kind k (at + n) ≡ kindLine s at
-    kind-found y hk =
-        let rest : List ℕ = drop (length (lineOf place)) (drop at s) in
-        rw (hk, hn) (sym (kind-line s at rest (kindAt place) (stands-then (lineOf place) s at compared y)))
+    module _ (y : 0 < n) where
+      pub kind-found : {k : Kind} → k ≡ kindAt place → named.Kind k (at + n) ≡ kindLine s at
+      kind-found hk =
+          let t = standing-then (lineOf place) s at e y in
+          let rest : List ℕ = drop (length (lineOf place)) (drop at s) in
+          rw (hk, t .1) (sym (kind-line s at rest (kindAt place) (stands-then (lineOf place) s at refl (t .0))))
 
-    pub kind-fits : {m : ℕ} → r ≡ true → at < m → length s < m → at + n < m
-    kind-fits y p q = rw hn (stands-fits (lineOf place) s at compared y p q)
+      pub kind-fits : {m : ℕ} → at < m → length s < m → at + n < m
+      kind-fits p q = let t = standing-then (lineOf place) s at e y in rw (t .1) (stands-fits (lineOf place) s at refl (t .0) p q)

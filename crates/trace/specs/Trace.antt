@@ -23,6 +23,11 @@ use Rattle.trace.specs.declared.Reading.the-variants as reading
 
 -- ---- reading
 
+-- how many these bytes are, where they stand in a text at an index; else 0
+unfoldable pub standing : (bytes text : List ℕ) → ℕ → ℕ
+unfolding sameBytes
+standing bytes text at = cond (sameBytes (take (length bytes) (drop at text)) bytes) (length bytes) 0
+
 -- the decimal behind a name on a line without its newline
 unfoldable pub numberNamed : (name line : List ℕ) → Decimal
 unfolding sameBytes parseOf

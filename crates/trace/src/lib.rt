@@ -15,7 +15,7 @@ ghost use lib.ListN.{length, getD, take, drop};
 ghost use Rattle.event.specs.Kinds.{kinds, kindAt};
 ghost use Rattle.line.specs.Line.{sameBytes, firstLine};
 ghost use Rattle.trace.specs.Words.{kindText, kindTable, kindLine};
-ghost use Rattle.trace.specs.Trace.{numberLine, eventAt, ended};
+ghost use Rattle.trace.specs.Trace.{numberLine, eventAt, ended, standing};
 
 pub enum Word {
     Known(Kind),
@@ -71,14 +71,34 @@ fn stands(bytes: &[u8], text: &[u8], at: usize) -> bool
     }
 }
 
-// The length of the line of the kind at a place, with its newline, which stands behind its first eight bytes.
-fn line_length(place: u16) -> usize
+// How long the line of the kind at a place is, with its newline, where it stands in the text at an index; else 0.
+// The text has nine bytes there, and no line ends within its first eight.
+fn matched(table: &[u8; 108], place: u16, text: &[u8], at: usize) -> usize
+    requires { ⌜ now table ≡ kindTable ⌝ }
     requires { ⌜ place < length kinds ⌝ }
-    ensures { λ r. ⌜ r ≡ length (ended (kindText (kindAt place))) ⌝ }
+    requires { ⌜ at + 9 ≤ length (now text) ⌝ }
+    ensures { λ r. ⌜ r ≡ standing (ended (kindText (kindAt place))) (now (text .entry)) at ⌝ }
 {
-    let table = kind_table();
     let start = 12 * place as usize;
-    line_end(&table, start + 8) + 1 - start
+    let mut j: usize = 0;
+    while j < 8 {
+        if table[start + j] != text[at + j] {
+            return 0;
+        }
+        j += 1;
+    }
+    let rest = text.len() - at;
+    while j < rest {
+        let b = text[at + j];
+        if table[start + j] != b {
+            return 0;
+        }
+        j += 1;
+        if b == b'\n' {
+            return j;
+        }
+    }
+    0
 }
 
 // The first place from `from` on whose line has this byte behind its first eight; the number of kinds if none has.
@@ -109,9 +129,8 @@ fn kind_line(text: &[u8], at: usize) -> Named
     let b = text[at + 8];
     let mut place = place_by(b, 0);
     while place < event::KIND_COUNT {
-        let start = 12 * place as usize;
-        let n = line_length(place);
-        if stands(&table[start..start + n], text, at) {
+        let n = matched(&table, place, text, at);
+        if 0 < n {
             return Named::Kind(event::kind_at(place), at + n);
         }
         place = place_by(b, place + 1);

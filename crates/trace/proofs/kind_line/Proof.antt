@@ -4,8 +4,8 @@ use borrow.Author.Needs.{needs}
 use borrow.Author.Tests.{not-true, not-false}
 use lib.ListN.{length}
 use Rattle.event.specs.Kinds.{kinds}
-use Rattle.trace.proofs.Places.{reached-byte, byte-fits}
-use Rattle.trace.proofs.Words.{row-end, bytes-fit, Passed, kind-short, kind-nowhere, first-passed, next-passed, kind-found, kind-fits}
+use Rattle.trace.proofs.Places.{reached, reached-byte, byte-fits}
+use Rattle.trace.proofs.Words.{Passed, kind-short, kind-nowhere, first-passed, next-passed, kind-found, kind-fits}
 use Rattle.trace.proofs.kind_line.Statement.{statement}
 use Rattle.trace.proofs.kind_line.Tie as tie
 
@@ -36,35 +36,14 @@ place-by-requires c κs = search needs
 loop-holds : tie.Need-loop-holds Inv-loop μ-loop
 loop-holds c = (search needs, search first-passed)
 
-cast-start : tie.Need-cast-start Inv-loop μ-loop
-cast-start c = search needs
-
-mul-start : tie.Need-mul-start Inv-loop μ-loop
-mul-start c = search needs
-
-line-length-requires : tie.Need-line-length-requires Inv-loop μ-loop
-line-length-requires c κs = search needs
-
-add-stands : tie.Need-add-stands Inv-loop μ-loop
-add-stands c = search (bytes-fit, needs)
-
-sub-stands : tie.Need-sub-stands Inv-loop μ-loop
-sub-stands c = search needs
-
-part-stands-start : tie.Need-part-stands-start Inv-loop μ-loop
-part-stands-start c = search needs
-
-part-stands-end : tie.Need-part-stands-end Inv-loop μ-loop
-part-stands-end c = search row-end
-
-stands-requires : tie.Need-stands-requires Inv-loop μ-loop
-stands-requires c κs = search needs
+matched-requires : tie.Need-matched-requires Inv-loop μ-loop
+matched-requires c κs = search (reached, not-false, needs)
 
 kind-at-requires : tie.Need-kind-at-requires Inv-loop μ-loop
 kind-at-requires c κs = search needs
 
-add-t23 : tie.Need-add-t23 Inv-loop μ-loop
-add-t23 c = search (kind-fits, needs)
+add-t16 : tie.Need-add-t16 Inv-loop μ-loop
+add-t16 c = search (kind-fits, needs)
 
 returns-2 : tie.Need-returns-2 Inv-loop μ-loop
 returns-2 c = search kind-found
@@ -97,16 +76,9 @@ kind-line-spec =
     shared-slice-read-b
     place-by-requires
     loop-holds
-    cast-start
-    mul-start
-    line-length-requires
-    add-stands
-    sub-stands
-    part-stands-start
-    part-stands-end
-    stands-requires
+    matched-requires
     kind-at-requires
-    add-t23
+    add-t16
     returns-2
     add-place-by
     place-by-requires-2
