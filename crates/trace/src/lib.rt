@@ -28,10 +28,11 @@ pub enum Named {
     Wrong,
 }
 
-// A line that gives a number, with the start of the next; or a wrong one.
+// A wrong line; or one that gives a number, with the start of the next.
+// The wrong one comes first: a compiler takes what is 0 for unlikely, and puts it aside.
 pub enum Field {
-    Number(i32, usize),
     Wrong,
+    Number(i32, usize),
 }
 
 pub enum Reading {
