@@ -1,14 +1,15 @@
 -- What the proofs of the functions cite: each case of a rule, over plain values. Assumes nothing.
-use Prim.Native.Nat.{ℕ, _+_, _*_, _/_, _%_, _<_, min}
-use mathlib.Core.Path.{_≡_}
+use Prim.Native.Nat.{ℕ, zero, suc, _+_, _*_, _/_, _%_, _^_, _<_, _≤_, min}
+use mathlib.Core.Path.{_≡_, refl}
 use mathlib.Core.Bool.{Bool, true, false, cond}
 use mathlib.Core.List.{[], _∷_}
-use native.Mathlib.Nat.{div-le-self}
+use lib.ListN.{getD, List·getD-eq-default}
+use native.Mathlib.Nat.{div-le-self, mul-div-mul-left}
 use native.Mathlib.Omega.{arith}
 use borrow.Author.Tests.{ne-eqb}
 use mir.Syntax.{w8, w32}
 use mir.Val.{Fits}
-use Rattle.integer.proofs.CodeLaws.{NoneBelow, rest-is}
+use Rattle.integer.proofs.CodeLaws.{NoneBelow}
 use Rattle.part.specs.declared.ChannelId.{ChannelId}
 use Rattle.part.specs.declared.FanId.{FanId}
 use Rattle.part.specs.declared.FanId.the-variants.{One, Two}
@@ -16,27 +17,32 @@ use Rattle.rules.specs.Fields.{speedCode}
 use Rattle.rules.specs.Targets.{rangeOf, isOwn, isRemote1, isRemote2, assignedBy}
 use Rattle.demand.specs.Demand.{slopeOf}
 
--- the quotient 20 x / R, by the range code
-module _ (above control : ℕ) where
-  pub slope-0 : control % 8 ≡ 0 → 4 * above ≡ slopeOf above (rangeOf control)
-  unfolding slopeOf rangeOf
-  slope-0 e = rw e (omega arith)
+-- the quotient 20 x / R by shifts: R is 5 * 2^code up to 80, so it is 4 x / 2^code; no bit of 4 x is lost in 32
+range-by-code : (code : ℕ) → code < 4 → getD (5 ∷ 10 ∷ 20 ∷ 40 ∷ []) code 80 ≡ 5 * 2 ^ code
+range-by-code zero l = refl
+range-by-code (suc zero) l = refl
+range-by-code (suc (suc zero)) l = refl
+range-by-code (suc (suc (suc zero))) l = refl
+range-by-code (suc (suc (suc (suc k)))) l = absurd (omega arith)
 
-  pub slope-1 : control % 8 ≡ 1 → 2 * above ≡ slopeOf above (rangeOf control)
-  unfolding slopeOf rangeOf
-  slope-1 e = rw e (omega arith)
+module _ (above control : ℕ) (h : above < 65536) where
+  by-power : (power : ℕ) → above * 4 % 4294967296 / power ≡ slopeOf above (5 * power)
+  unfolding slopeOf
+  by-power power = rw (whole, fives, mul-div-mul-left {m = 5} (above * 4) power (omega arith))
+    where
+      whole : above * 4 % 4294967296 ≡ above * 4
+      whole = omega arith
 
-  pub slope-2 : control % 8 ≡ 2 → above ≡ slopeOf above (rangeOf control)
-  unfolding slopeOf rangeOf
-  slope-2 e = rw e (omega arith)
+      fives : 20 * above ≡ 5 * (above * 4)
+      fives = omega arith
 
-  pub slope-3 : control % 8 ≡ 3 → above / 2 ≡ slopeOf above (rangeOf control)
-  unfolding slopeOf rangeOf
-  slope-3 e = rw e (omega arith)
+  pub shifted : control % 8 < 4 → above * 4 % 4294967296 / 2 ^ (control % 8) ≡ slopeOf above (rangeOf control)
+  unfolding rangeOf
+  shifted l = rw (range-by-code (control % 8) l) (by-power (2 ^ (control % 8)))
 
-  pub slope-rest : NoneBelow 4 (control % 8) → above / 4 ≡ slopeOf above (rangeOf control)
-  unfolding slopeOf rangeOf
-  slope-rest h = rw (← rest-is (5 ∷ 10 ∷ 20 ∷ 40 ∷ []) 80 (control % 8) h) (omega arith)
+  pub shifted-most : 4 ≤ control % 8 → above * 4 % 4294967296 / 16 ≡ slopeOf above (rangeOf control)
+  unfolding rangeOf
+  shifted-most l = rw (List·getD-eq-default {A = ℕ} (5 ∷ 10 ∷ 20 ∷ 40 ∷ []) 80 l) (by-power 16)
 
 pub sum-fits : {n : ℕ} (above r m : ℕ) → m < 256 → above < 65536 → n ≡ slopeOf above r → Fits w32 (16 * m + n)
 unfolding slopeOf

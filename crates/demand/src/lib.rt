@@ -8,17 +8,16 @@ ghost use Rattle.rules.specs.Fields.{speedCode};
 ghost use Rattle.rules.specs.Targets.{tminOf, rangeOf, isOwn, isRemote1, isRemote2, assignedBy, demandIf};
 ghost use Rattle.demand.specs.Demand.{slopeOf, demandOf, overriddenOf};
 
-// The slots that a reading this far above Tmin adds: 20 / R is 4, 2, 1, 1/2, 1/4.
+// The slots that a reading this far above Tmin adds. R is 5 * 2^code up to 80, so 20 x / R is 4 x / 2^code: two shifts, no division.
 pub fn slope(above: u16, control: u8) -> u32
     ensures { λ r. ⌜ r ≡ slopeOf above (rangeOf control) ⌝ }
 {
     let code = control % 8;
-    match code {
-        0 => 4 * above as u32,
-        1 => 2 * above as u32,
-        2 => above as u32,
-        3 => (above / 2) as u32,
-        _ => (above / 4) as u32,
+    let quadruple = (above as u32) << 2;
+    if code < 4 {
+        quadruple >> code
+    } else {
+        quadruple >> 4
     }
 }
 
