@@ -23,7 +23,7 @@ use Rattle.channel.specs.declared.Channels.{Channels}
 
 -- the reading that a sample makes
 abbrev pub sampledIn : Context → ℕ
-sampledIn m = m .input .reading
+sampledIn m = m .input .sample
 
 -- 1: the last reading; 0, held as 1024, after power or reset
 unfoldable pub readingAfter : ChannelId → Context → ℕ → ℕ

@@ -33,7 +33,7 @@ pub struct Channels {
 fn sampled(m: Context) -> u16
     ensures { λ t. ⌜ t ≡ sampledIn m ⌝ }
 {
-    m.input.reading
+    m.input.sample
 }
 
 fn reading_after(c: ChannelId, m: Context, was: u16) -> u16

@@ -27,11 +27,11 @@ use Rattle.rules.specs.Stored.{Taken, counts}
 use Rattle.rules.specs.Replies as replies
 use Rattle.rules.specs.Replies.{lowest, replyTo, accepts}
 use Rattle.rules.proofs.EventLaws.{who-lies, arg-lies, val-lies}
-use Rattle.input.specs.Inputs.{plainOf, measured, inputOf, byteIn, isWrite, isRestart}
+use Rattle.input.specs.Inputs.{plainOf, eighthsHeld, inputOf, byteIn, isWrite, isRestart}
 use Rattle.stored.specs.Stored.{isCountAt}
 use Rattle.input.proofs.PlainLaws.{lies-plain, lies-number, count-is}
 
-in-range : (t : ℤ) → lies (fromTo (negsuc 1023) (pos 1023)) t ≡ true → eighthsOf t ≡ In (measured t)
+in-range : (t : ℤ) → lies (fromTo (negsuc 1023) (pos 1023)) t ≡ true → eighthsOf t ≡ In (eighthsHeld t)
 unfolding eighthsOf
 in-range (pos n) z = rw (lt-ltb n 1024 (omega (arith, leb-true n 1023 z)))
 in-range (negsuc n) z = rw (lt-ltb n 1024 (omega (arith, leb-true n 1023 (both (leb n 1023) true z .0))))
@@ -73,5 +73,5 @@ module _ (e : Event) (fine : replies.outOfRange e ≡ false) where
   count-at-is a = rw (count-is _ e, count-is _ e)
 
   -- the eighths of a sample are within the range that is held
-  pub sample-held : isKind kind.Sample e ≡ true → eighthsOf (val e) ≡ In (measured (val e))
+  pub sample-held : isKind kind.Sample e ≡ true → eighthsOf (val e) ≡ In (eighthsHeld (val e))
   sample-held y = in-range (val e) (val-lies e fine 4 y)

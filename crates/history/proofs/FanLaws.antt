@@ -29,7 +29,7 @@ use Rattle.drive.specs.Drive.{dutyOf, startsOf, leftOf, driveAt, drivenOf}
 use Rattle.drive.specs.Tach.{runOf}
 use Rattle.drive.specs.declared.Drive.{Drive}
 use Rattle.drive.specs.declared.Setting.{Setting}
-use Rattle.input.specs.Inputs.{measured, inputOf, bitAfter}
+use Rattle.input.specs.Inputs.{eighthsHeld, inputOf, bitAfter}
 use Rattle.input.proofs.PlainLaws.{count-is, period-is}
 use Rattle.stored.specs.Stored.{fanRegistersOf}
 use Rattle.fan.specs.Fans.{fanTarget, settingOf, priorFan, judgesFan, failsFan, fanInputOf, fanRun, fanUnder, fanAfter}
@@ -43,9 +43,9 @@ use Rattle.history.proofs.HeldLaws.{Held}
 module _ (f : FanId) (d : Taken) where
   demand-is : Held d → (c : ChannelId)
       → demandOf (flag c d) (speedCode f (storedAt speeds d)) (tminOf (storedAt (controlAt c) d)) (rangeOf (storedAt (controlAt c) d))
-      (measured (temperature c d)) ≡ demand f c d
+      (eighthsHeld (temperature c d)) ≡ demand f c d
   unfolding demand
-  demand-is held c = faithful-demand (temperature c d) (measured (temperature c d)) (held c) _ _ _ _
+  demand-is held c = faithful-demand (temperature c d) (eighthsHeld (temperature c d)) (held c) _ _ _ _
 
   own-registers : fanRegistersOf (registersBy d) f ≡ fanRegistersBy f d
   unfolding registersBy

@@ -15,12 +15,12 @@ use Rattle.rules.specs.Stored.{Taken}
 use Rattle.rules.specs.Replies as replies
 use Rattle.rules.specs.Temperatures.{temperature}
 use Rattle.rules.proofs.TakenLaws.{Took, none, more, went}
-use Rattle.input.specs.Inputs.{measured}
+use Rattle.input.specs.Inputs.{eighthsHeld}
 use Rattle.history.proofs.AcceptedLaws.{sample-held}
 
 -- readings are always in the range that is held
 abbrev pub Held : Taken → Type 0
-Held d = (c : ChannelId) → eighthsOf (temperature c d) ≡ In (measured (temperature c d))
+Held d = (c : ChannelId) → eighthsOf (temperature c d) ≡ In (eighthsHeld (temperature c d))
 
 pub held-after : (e : Event) (d : Taken) → replies.outOfRange e ≡ false → Held d → Held (e ∷ d)
 unfolding temperature eighthsOf

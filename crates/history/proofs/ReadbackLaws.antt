@@ -24,7 +24,7 @@ use Rattle.rules.specs.Shows.{remaindersByte, byteAt, value}
 use Rattle.reading.specs.Reading.{byteOf, remainderOf, remainderIn}
 use Rattle.reading.specs.Faithful.{Faithful}
 use Rattle.reading.proofs.FaithfulLaws.{faithful}
-use Rattle.input.specs.Inputs.{measured}
+use Rattle.input.specs.Inputs.{eighthsHeld}
 use Rattle.history.specs.Readback.{ReadsBack, Readback}
 use Rattle.rules.proofs.TakenLaws.{Took, none, more, took, went, accepted-is}
 use Rattle.history.proofs.HeldLaws.{Held, held}
@@ -66,8 +66,8 @@ apart Remote1 l a b y = omega (arith, rest-small l, rest-small a, rest-small b)
 apart Remote2 l a b y = omega (arith, rest-small l, rest-small a, rest-small b)
 
 module _ {d : Taken} (t : Took d) (c : ChannelId) where
-  stands : Faithful (temperature c d) (measured (temperature c d))
-  stands = faithful (temperature c d) (measured (temperature c d)) (held t c)
+  stands : Faithful (temperature c d) (eighthsHeld (temperature c d))
+  stands = faithful (temperature c d) (eighthsHeld (temperature c d)) (held t c)
 
   rest-back : remainderIn c (value extended d) ≡ remainder (temperature c d)
   unfolding value byteAt existsAt

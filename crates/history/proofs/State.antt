@@ -14,7 +14,7 @@ use Rattle.rules.specs.Targets.{flag, target, overridden}
 use Rattle.rules.specs.Duties.{enabled, filtered, rate, spinUpClocks, Spin, left, spin, failures, atAlarm, alarmBit, faultBit}
 use Rattle.drive.specs.declared.Drive.{Drive}
 use Rattle.drive.specs.declared.Setting.{Setting}
-use Rattle.input.specs.Inputs.{measured, inputOf}
+use Rattle.input.specs.Inputs.{eighthsHeld, inputOf}
 use Rattle.stored.specs.declared.ChannelRegisters.{ChannelRegisters}
 use Rattle.stored.specs.declared.FanRegisters.{FanRegisters}
 use Rattle.stored.specs.declared.Registers.{Registers}
@@ -68,7 +68,7 @@ contextBy e d = record { input = inputOf e; registers = registersBy (e ∷ d); p
 unfoldable pub channelBy : ChannelId → Taken → Channel
 channelBy c d =
     record {
-      reading = measured (temperature c d);
+      reading = eighthsHeld (temperature c d);
       latch = latch c d;
       flag = flag c d;
       high = highBit c d;

@@ -27,7 +27,7 @@ use Rattle.rules.specs.Targets.{tminOf, flag}
 use Rattle.rules.proofs.StoredLaws.{count-tach}
 use Rattle.reading.specs.Faithful.{Faithful}
 use Rattle.reading.proofs.FaithfulLaws.{faithful}
-use Rattle.input.specs.Inputs.{plainOf, measured, inputOf, bitAfter}
+use Rattle.input.specs.Inputs.{plainOf, eighthsHeld, inputOf, bitAfter}
 use Rattle.input.proofs.PlainLaws.{plain-is, sample-is}
 use Rattle.stored.specs.Stored.{storedAfter, channelBytes, fanBytes, bytes, registersAfter, channelRegistersOf}
 use Rattle.channel.specs.Channels.{readingAfter, flagAtSample, latchAfter, flagAfter, clearsBit, statusBitAfter, highBitAfter, lowBitAfter, thermBitAfter}
@@ -106,15 +106,15 @@ module _ (e : Event) (d : Taken) (fine : replies.outOfRange e ≡ false) where
 
 module _ (e : Event) (d : Taken) (fine : replies.outOfRange e ≡ false) (small : (a : ℕ) → storedAt a (e ∷ d) < 256) (c : ChannelId) where
   -- an accepted sample is held as what it is
-  stands : samples c e ≡ true → Faithful (val e) (measured (val e))
-  stands y = faithful (val e) (measured (val e)) (sample-held e fine (both (isKind kind.Sample e) _ y .0))
+  stands : samples c e ≡ true → Faithful (val e) (eighthsHeld (val e))
+  stands y = faithful (val e) (eighthsHeld (val e)) (sample-held e fine (both (isKind kind.Sample e) _ y .0))
 
-  reading-is : readingAfter c (contextBy e d) (measured (temperature c d)) ≡ measured (temperature c (e ∷ d))
+  reading-is : readingAfter c (contextBy e d) (eighthsHeld (temperature c d)) ≡ eighthsHeld (temperature c (e ∷ d))
   unfolding readingAfter temperature eighthsOf
   reading-is =
       rw (restart-is e fine, sample-is c e)
-      (ap (cond (restarts e) 1024) (over-cond measured (samples c e) (val e) (temperature c d))
-      ∙ over-cond measured (restarts e) (pos 0) (cond (samples c e) (val e) (temperature c d)))
+      (ap (cond (restarts e) 1024) (over-cond eighthsHeld (samples c e) (val e) (temperature c d))
+      ∙ over-cond eighthsHeld (restarts e) (pos 0) (cond (samples c e) (val e) (temperature c d)))
 
   own-registers : channelRegistersOf (registersBy (e ∷ d)) c ≡ channelRegistersBy c (e ∷ d)
   unfolding registersBy

@@ -25,7 +25,7 @@ use Rattle.rules.specs.Duties.{duty, failures, alarmBit, faultBit}
 use Rattle.rules.specs.Shows.{status, byteAt, value, pending, intAsserted, faultAsserted, shown}
 use Rattle.reading.specs.Faithful.{Faithful}
 use Rattle.reading.proofs.FaithfulLaws.{faithful}
-use Rattle.input.specs.Inputs.{measured}
+use Rattle.input.specs.Inputs.{eighthsHeld}
 use Rattle.stored.specs.Stored.{cells, found, storedIn}
 use Rattle.output.specs.Outputs.{statusOf, registerAt, intOf, faultOf, shownOf}
 use Rattle.history.proofs.State.{portBy, channelRegistersBy, fanRegistersBy, registersBy, channelBy, channelsBy, fanBy, chipBy}
@@ -85,8 +85,8 @@ module _ (d : Taken) (v : storedAt device d ≡ 0x31) (c : storedAt company d �
   abbrev Same : ℕ → Type 0
   Same a = registerAt (chipBy d) a ≡ value a d
 
-  stands : (c : ChannelId) → Faithful (temperature c d) (measured (temperature c d))
-  stands c = faithful (temperature c d) (measured (temperature c d)) (held c)
+  stands : (c : ChannelId) → Faithful (temperature c d) (eighthsHeld (temperature c d))
+  stands c = faithful (temperature c d) (eighthsHeld (temperature c d)) (held c)
 
   extended-same : Same extended
   unfolding registerAt value byteAt existsAt chipBy channelsBy channelBy

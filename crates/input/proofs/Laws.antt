@@ -14,7 +14,7 @@ use Rattle.event.specs.Kinds.{kindOf, placeOf, numbersOf}
 use Rattle.event.specs.declared.Event.{Event}
 use Rattle.event.specs.declared.Kind.{Kind}
 use Rattle.event.specs.declared.Numbers.{Numbers}
-use Rattle.input.specs.Inputs.{plainOf, insideOr, measured, inputOf}
+use Rattle.input.specs.Inputs.{plainOf, insideOr, eighthsHeld, inputOf}
 use Rattle.input.specs.declared.Input.{Input}
 
 module _ (v : ℤ) (fits : SFits w32 v) where
@@ -24,13 +24,13 @@ module _ (v : ℤ) (fits : SFits w32 v) where
   pub plain-neg : {s : Split} {n : ℕ} → s ≡ splitOf (toZ w32 (ofZ w32 v)) → s ≡ Neg n → 2147483648 ≡ plainOf v
   plain-neg e q = rw (is-neg v fits e q)
 
-  pub measured-is : {r : Ranged} {n : ℕ} → r ≡ eighthsOf (toZ w32 (ofZ w32 v)) → n ≡ insideOr 2048 r → n ≡ measured v
-  measured-is e q = q ∙ rw (e, toZ-ofZ w32 v fits)
+  pub held-is : {r : Ranged} {n : ℕ} → r ≡ eighthsOf (toZ w32 (ofZ w32 v)) → n ≡ insideOr 2048 r → n ≡ eighthsHeld v
+  held-is e q = q ∙ rw (e, toZ-ofZ w32 v fits)
 
 pub input-is :
     (e : Event) {k : Kind} {n : Numbers} {p w a v r : ℕ} → k ≡ kindOf e → p ≡ placeOf k → n ≡ numbersOf e
     → SFits w32 (n .who) → SFits w32 (n .arg) → SFits w32 (n .val)
     → w ≡ plainOf (toZ w32 (ofZ w32 (n .who))) → a ≡ plainOf (toZ w32 (ofZ w32 (n .arg))) → v ≡ plainOf (toZ w32 (ofZ w32 (n .val)))
-    → r ≡ measured (toZ w32 (ofZ w32 (n .val))) → _≡_ {A = Input} (record { kind = p; who = w; arg = a; val = v; reading = r }) (inputOf e)
+    → r ≡ eighthsHeld (toZ w32 (ofZ w32 (n .val))) → _≡_ {A = Input} (record { kind = p; who = w; arg = a; val = v; sample = r }) (inputOf e)
 input-is e {n = n} ek ep en fw fa fv ew ea ev er =
     rw (ep, ek, ew, ea, ev, er, toZ-ofZ w32 (n .who) fw, toZ-ofZ w32 (n .arg) fa, toZ-ofZ w32 (n .val) fv, en)

@@ -27,8 +27,8 @@ insideOr none (In n) = n
 insideOr none Out = none
 
 -- eighths of a degree from -1024 to 1023, with 1024 added; 2048 stands for every other number
-abbrev pub measured : ℤ → ℕ
-measured t = insideOr 2048 (eighthsOf t)
+abbrev pub eighthsHeld : ℤ → ℕ
+eighthsHeld t = insideOr 2048 (eighthsOf t)
 
 abbrev pub inputOf : Event → Input
 inputOf e =
@@ -37,7 +37,7 @@ inputOf e =
       who = plainOf (numbersOf e .who);
       arg = plainOf (numbersOf e .arg);
       val = plainOf (numbersOf e .val);
-      reading = measured (numbersOf e .val);
+      sample = eighthsHeld (numbersOf e .val);
     }
 
 abbrev pub isA : Kind → Input → Bool

@@ -9,17 +9,17 @@ use part::FanId;
 ghost use mathlib.Core.Path.{_≡_};
 ghost use mathlib.Core.Bool.{false, cond};
 ghost use Rattle.rules.specs.Events.{channelNumber, fanNumber};
-ghost use Rattle.input.specs.Inputs.{plainOf, insideOr, measured, inputOf, isA, byteIn, isSample, isCount, isPeriod, isWrite, isRead, isReset};
+ghost use Rattle.input.specs.Inputs.{plainOf, insideOr, eighthsHeld, inputOf, isA, byteIn, isSample, isCount, isPeriod, isWrite, isRead, isReset};
 ghost use Rattle.input.specs.Inputs.{isRestart, bitAfter};
 
 // The kind by its place in document 01's table, and the numbers of the event: 2147483648 stands for every negative
-// one. A val is also held as the reading of a sample, where 2048 stands for every val that is none.
+// one. A val is also held as a sample, where 2048 stands for every val that is none.
 pub struct Input {
     pub kind: u8,
     pub who: u32,
     pub arg: u32,
     pub val: u32,
-    pub reading: u16,
+    pub sample: u16,
 }
 
 fn plain(v: i32) -> u32
@@ -40,8 +40,8 @@ fn inside_or(none: u16, r: Ranged) -> u16
     }
 }
 
-fn measured(v: i32) -> u16
-    ensures { λ n. ⌜ n ≡ measured v ⌝ }
+fn eighths_held(v: i32) -> u16
+    ensures { λ n. ⌜ n ≡ eighthsHeld v ⌝ }
 {
     inside_or(2048, integer::eighths(v))
 }
@@ -54,13 +54,13 @@ pub fn input_of(e: Event) -> Input
     let who = plain(n.who);
     let arg = plain(n.arg);
     let val = plain(n.val);
-    let reading = measured(n.val);
+    let sample = eighths_held(n.val);
     Input {
         kind,
         who,
         arg,
         val,
-        reading,
+        sample,
     }
 }
 

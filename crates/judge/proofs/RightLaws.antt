@@ -21,7 +21,7 @@ use Rattle.rules.specs.Replies as replies
 use Rattle.rules.specs.Replies.{isRegister, isOdd, lowest}
 use Rattle.rules.proofs.EventLaws.{val-lies}
 use Rattle.rules.proofs.RegisterLaws.{exists-small}
-use Rattle.input.specs.Inputs.{plainOf, measured, inputOf, byteIn}
+use Rattle.input.specs.Inputs.{plainOf, eighthsHeld, inputOf, byteIn}
 use Rattle.input.proofs.PlainLaws.{plain-is}
 use Rattle.judge.specs.Judged.{plainRanges, rowOf, fitsRow, otherAddressIn, noPartIn, noRegisterIn, readOnlyIn, outOfRangeIn, badCodeIn}
 use Rattle.judge.specs.Judged.{oddLocalIn, lowestIn, Right}
@@ -71,12 +71,12 @@ arg-is (pos l) (pos h) (negsuc m) p q s = beyond h s
 arg-is (pos l) (negsuc h) v p q s = absurd (true≢false (sym q))
 arg-is (negsuc l) high v p q s = absurd (true≢false (sym p))
 
-measured-small : (v : ℤ) → leb (measured v) 2048 ≡ true
+held-small : (v : ℤ) → leb (eighthsHeld v) 2048 ≡ true
 unfolding eighthsOf
-measured-small (pos n) = by-cases (ltb n 1024) (λ y. rw y (le-leb (1024 + n) 2048 (omega (arith, ltb-true n 1024 y)))) (λ y. rw y)
-measured-small (negsuc n) = by-cases (ltb n 1024) (λ y. rw y (le-leb (1023 - n) 2048 (omega arith))) (λ y. rw y)
+held-small (pos n) = by-cases (ltb n 1024) (λ y. rw y (le-leb (1024 + n) 2048 (omega (arith, ltb-true n 1024 y)))) (λ y. rw y)
+held-small (negsuc n) = by-cases (ltb n 1024) (λ y. rw y (le-leb (1023 - n) 2048 (omega arith))) (λ y. rw y)
 
-sample-fits : (v : ℤ) → (leb (plainOf v) 2147483648 && leb (measured v) 2047) ≡ (leZ (negsuc 1023) v && leZ v (pos 1023))
+sample-fits : (v : ℤ) → (leb (plainOf v) 2147483648 && leb (eighthsHeld v) 2047) ≡ (leZ (negsuc 1023) v && leZ v (pos 1023))
 unfolding eighthsOf
 sample-fits (pos n) =
     by-cases (ltb n 1024)
@@ -88,11 +88,11 @@ sample-fits (negsuc n) =
     (λ y. let h = ltb-false n 1024 y in rw (y, lt-leb n 1023 (omega arith)))
 
 val-is : (low high v : ℤ) → ((isNumber low 0 && (nonNeg low && (nonNeg high && ltb (natural high) 2147483648))) || ofSample low high) ≡ true
-    → (leb (plainOf v) (cond (nonNeg low) (natural high) 2147483648) && leb (measured v) (cond (nonNeg low) 2048 2047)) ≡ (leZ low v && leZ v high)
+    → (leb (plainOf v) (cond (nonNeg low) (natural high) 2147483648) && leb (eighthsHeld v) (cond (nonNeg low) 2048 2047)) ≡ (leZ low v && leZ v high)
 val-is (pos l) high v y =
     let p = both (isNumber (pos l) 0) _ (or-no _ y) in
     let q = both (nonNeg high) (ltb (natural high) 2147483648) (p .1) in
-    rw (measured-small v) (and-true (leb (plainOf v) (natural high)) ∙ arg-is (pos l) high v (p .0) (q .0) (ltb-true _ _ (q .1)))
+    rw (held-small v) (and-true (leb (plainOf v) (natural high)) ∙ arg-is (pos l) high v (p .0) (q .0) (ltb-true _ _ (q .1)))
   where
     or-no : (b : Bool) → (b || false) ≡ true → b ≡ true
     or-no true z = refl
@@ -165,7 +165,7 @@ even-odd n h =
     (λ y. eq-eqb ((1023 - n) % 2) 1 (omega (arith, eqb-true (n % 2) 0 y)) ∙ sym y)
     (λ y. ne-eqb ((1023 - n) % 2) 1 (λ z. eqb-false (n % 2) 0 y (omega arith)) ∙ sym y)
 
-odd-held : (t : ℤ) → (leZ (negsuc 1023) t && leZ t (pos 1023)) ≡ true → eqb (measured t % 2) 1 ≡ isOdd t
+odd-held : (t : ℤ) → (leZ (negsuc 1023) t && leZ t (pos 1023)) ≡ true → eqb (eighthsHeld t % 2) 1 ≡ isOdd t
 unfolding eighthsOf
 odd-held (pos n) y =
     let m : (1024 + n) % 2 ≡ n % 2 = omega arith in

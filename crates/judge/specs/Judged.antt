@@ -20,7 +20,7 @@ use Rattle.input.specs.declared.Input.{Input}
 use Rattle.judge.specs.declared.PlainRanges.{PlainRanges}
 use Rattle.judge.specs.declared.Standing.{Standing}
 
--- who from a low to a high end, arg and val from 0 to theirs; a signed val, which is a sample's, is judged by its reading
+-- who from a low to a high end, arg and val from 0 to theirs; a signed val, which is a sample's, is judged as a sample
 abbrev pub plainRanges : Ranges → PlainRanges
 plainRanges r =
     record {
@@ -28,7 +28,7 @@ plainRanges r =
       high = natural (r .who .high);
       arg = natural (r .arg .high);
       val = cond (nonNeg (r .val .low)) (natural (r .val .high)) 2147483648;
-      reading = cond (nonNeg (r .val .low)) 2048 2047;
+      sample = cond (nonNeg (r .val .low)) 2048 2047;
     }
 
 unfoldable pub rowOf : (kind : ℕ) → PlainRanges
@@ -37,7 +37,7 @@ rowOf k = plainRanges (getD carried k (ranges unused unused unused))
 abbrev pub fitsRow : PlainRanges → Input → Bool
 fitsRow r i =
     (leb (r .low) (i .who) && leb (i .who) (r .high))
-    && (leb (i .arg) (r .arg) && (leb (i .val) (r .val) && leb (i .reading) (r .reading)))
+    && (leb (i .arg) (r .arg) && (leb (i .val) (r .val) && leb (i .sample) (r .sample)))
 
 -- ---- when each number applies
 
@@ -65,7 +65,7 @@ abbrev pub badCodeIn : Input → Bool
 badCodeIn i = isA kind.Write i && ((leb 0x24 (i .arg) && leb (i .arg) 0x26) && leb 5 (rangeCode (byteIn i)))
 
 abbrev pub oddLocalIn : Input → Bool
-oddLocalIn i = isA kind.Sample i && (eqb (i .who) 0 && eqb (i .reading % 2) 1)
+oddLocalIn i = isA kind.Sample i && (eqb (i .who) 0 && eqb (i .sample % 2) 1)
 
 abbrev pub notMonitoringIn : Standing → Input → Bool
 notMonitoringIn s i = (isA kind.Sample i || isA kind.Tach i) && not (s .monitoring)

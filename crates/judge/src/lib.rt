@@ -23,14 +23,14 @@ pub struct PlainRanges {
     pub high: u32,
     pub arg: u32,
     pub val: u32,
-    pub reading: u16,
+    pub sample: u16,
 }
 
 fn fits_row(r: PlainRanges, i: Input) -> bool
     ensures { λ b. ⌜ b ≡ fitsRow r i ⌝ }
 {
     ((r.low <= i.who) & (i.who <= r.high))
-        & ((i.arg <= r.arg) & ((i.val <= r.val) & (i.reading <= r.reading)))
+        & ((i.arg <= r.arg) & ((i.val <= r.val) & (i.sample <= r.sample)))
 }
 
 // ---- when each number applies
@@ -92,7 +92,7 @@ fn bad_code(i: Input) -> bool
 fn odd_local(i: Input) -> bool
     ensures { λ b. ⌜ b ≡ oddLocalIn i ⌝ }
 {
-    input::is_a(Kind::Sample, i) & ((i.who == 0) & (i.reading % 2 == 1))
+    input::is_a(Kind::Sample, i) & ((i.who == 0) & (i.sample % 2 == 1))
 }
 
 fn not_monitoring(s: Standing, i: Input) -> bool

@@ -6,7 +6,7 @@ ghost use Rattle.judge.specs.Judged.{rowOf};
 // The largest byte: of a register's address, a value, a count.
 const BYTE: u32 = 255;
 
-// Any reading, and the mark of a number that is none.
+// Any sample, and the mark of a number that is none.
 const ANY: u16 = 2048;
 
 const ROWS: [PlainRanges; 9] = [
@@ -16,7 +16,7 @@ const ROWS: [PlainRanges; 9] = [
         high: 46,
         arg: 1,
         val: 1,
-        reading: ANY,
+        sample: ANY,
     },
     // write
     PlainRanges {
@@ -24,7 +24,7 @@ const ROWS: [PlainRanges; 9] = [
         high: 127,
         arg: BYTE,
         val: BYTE,
-        reading: ANY,
+        sample: ANY,
     },
     // point
     PlainRanges {
@@ -32,7 +32,7 @@ const ROWS: [PlainRanges; 9] = [
         high: 127,
         arg: BYTE,
         val: 0,
-        reading: ANY,
+        sample: ANY,
     },
     // read
     PlainRanges {
@@ -40,7 +40,7 @@ const ROWS: [PlainRanges; 9] = [
         high: 127,
         arg: 0,
         val: 0,
-        reading: ANY,
+        sample: ANY,
     },
     // sample
     PlainRanges {
@@ -48,7 +48,7 @@ const ROWS: [PlainRanges; 9] = [
         high: 2,
         arg: 0,
         val: 2147483648,
-        reading: 2047,
+        sample: 2047,
     },
     // tach
     PlainRanges {
@@ -56,7 +56,7 @@ const ROWS: [PlainRanges; 9] = [
         high: 2,
         arg: 0,
         val: BYTE,
-        reading: ANY,
+        sample: ANY,
     },
     // pin
     PlainRanges {
@@ -64,7 +64,7 @@ const ROWS: [PlainRanges; 9] = [
         high: 0,
         arg: 0,
         val: 1,
-        reading: ANY,
+        sample: ANY,
     },
     // clock
     PlainRanges {
@@ -72,7 +72,7 @@ const ROWS: [PlainRanges; 9] = [
         high: 0,
         arg: 0,
         val: 0,
-        reading: ANY,
+        sample: ANY,
     },
     // period
     PlainRanges {
@@ -80,7 +80,7 @@ const ROWS: [PlainRanges; 9] = [
         high: 2,
         arg: 0,
         val: 0,
-        reading: ANY,
+        sample: ANY,
     },
 ];
 
@@ -96,7 +96,7 @@ pub fn row_of(kind: u8) -> PlainRanges
             high: 0,
             arg: 0,
             val: 0,
-            reading: ANY,
+            sample: ANY,
         }
     }
 }

@@ -21,8 +21,8 @@ plain-requires-2 c κs = search needs
 plain-requires-3 : tie.Need-plain-requires-3
 plain-requires-3 c κs = search needs
 
-measured-requires : tie.Need-measured-requires
-measured-requires c κs = search needs
+eighths-held-requires : tie.Need-eighths-held-requires
+eighths-held-requires c κs = search needs
 
 returns : tie.Need-returns
 returns c = search (input-is, sfits-of)
@@ -37,5 +37,5 @@ input-of-spec =
     plain-requires
     plain-requires-2
     plain-requires-3
-    measured-requires
+    eighths-held-requires
     returns)
