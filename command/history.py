@@ -2,22 +2,26 @@
 import collections
 import dataclasses
 
-from command.registers import (CHARACTERISTICS, CONFIG2, HIGH, LOW, REGISTERS, RESET_BIT, SPIN_UP, STATUS, TACH_LIMIT, THERM,
-                               channel_enabled, degrees, tach_enabled)
+from command.registers import (CHARACTERISTICS, CONFIG2, HIGH, LOW, OFFSETS, REGISTERS, RESET_BIT, SPIN_UP, STATUS, TACH_LIMIT, THERM,
+                               channel_enabled, degrees, offset_degrees, tach_enabled)
 
-# what: refused, power, reset, status (part: register, value: byte), high, low (channel, limit), over (fan, count), failed (fan, count)
+# what: refused, power, reset, status (part: register, value: byte), high, low (channel, limit), over (fan, count), failed (fan, count),
+# offset (channel, degrees: at a sample, other than 0)
 Mark = collections.namedtuple("Mark", "what part value", defaults=(None, None))
 AFTER_POWER = {address: register.reset for address, register in REGISTERS.items()}
 RELEASE = 5  # degrees under its limit, where a THERM latch lets go
+LEAST, MOST = -1024, (1022, 1023, 1023)  # readings of the channels, in eighths; the local one stays even
 
 
 @dataclasses.dataclass(frozen=True)
 class Chip:
-    """Readings are in eighths, None before the first sample; spins are the clock events that remain of the spin-ups."""
+    """Readings are in eighths, None before the first sample; samples those they were made of, None where no offset stood at them;
+    spins are the clock events that remain of the spin-ups."""
 
     registers: dict = dataclasses.field(default_factory=lambda: AFTER_POWER)
     pointer: int = 0
     readings: tuple = (None, None, None)
+    samples: tuple = (None, None, None)
     latches: tuple = (False, False, False)
     pin_low: bool = False
     duties: tuple = (0, 0)
@@ -27,6 +31,9 @@ class Chip:
 
     def limit(self, limits, channel):
         return degrees(self.registers[limits[channel]])
+
+    def offset(self, channel):
+        return offset_degrees(self.registers[OFFSETS[channel]])
 
 
 def put(values, place, value):
@@ -45,16 +52,24 @@ def write(chip, event):
     return dataclasses.replace(chip, registers={**chip.registers, event.arg: byte}, pointer=event.arg)
 
 
+def reading_of(channel, eighths, offset):
+    """What a sample makes of a reading: the channel's offset is added, and the sum is held at both ends."""
+    return max(LEAST, min(eighths + 8 * offset, MOST[channel]))
+
+
 def sample(chip, event):
-    channel, reading = event.who, event.val
+    channel, offset = event.who, chip.offset(event.who)
+    reading = reading_of(channel, event.val, offset)
     high, low, therm = (chip.limit(limits, channel) for limits in (HIGH, LOW, THERM))
     latch = reading > 8 * therm or (chip.latches[channel] and reading >= 8 * (therm - RELEASE))
     marks = [Mark("high", channel, high)] * (reading > 8 * high) + [Mark("low", channel, low)] * (reading < 8 * low)
+    marks *= channel_enabled(channel, chip.registers[CONFIG2])
     return dataclasses.replace(
         chip,
         readings=put(chip.readings, channel, reading),
+        samples=put(chip.samples, channel, event.val if offset else None),
         latches=put(chip.latches, channel, latch),
-        marks=tuple(marks) if channel_enabled(channel, chip.registers[CONFIG2]) else (),
+        marks=(*marks, Mark("offset", channel, offset)) if offset else tuple(marks),
     )
 
 

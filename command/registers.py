@@ -4,6 +4,7 @@ import collections
 Register = collections.namedtuple("Register", "name mask reset")
 CHANNELS = ("local", "remote 1", "remote 2")
 CONFIG1, CONFIG2, STATUS = 0x00, 0x01, (0x02, 0x03)
+OFFSETS = (0x0D, 0x0E, 0x0F)  # of the channels
 TACH_LIMIT, CHARACTERISTICS = (0x10, 0x11), (0x20, 0x21)  # of fan 1, fan 2
 HIGH, LOW, THERM = (0x14, 0x18, 0x1C), (0x15, 0x19, 0x1D), (0x16, 0x1A, 0x1E)  # limits of the channels
 LIMITS = (*HIGH, *LOW, *THERM)
@@ -52,6 +53,11 @@ REGISTERS = {
 def degrees(byte):
     """A limit's byte, in two's complement."""
     return byte - 256 if byte > 127 else byte
+
+
+def offset_degrees(byte):
+    """An offset's byte: 0 to 15 in bits 3:0, subtracted where bit 7 is set; no two's complement, and bits 6:4 are no part of it."""
+    return -(byte & 0x0F) if byte & 0x80 else byte & 0x0F
 
 
 def tach_enabled(fan, byte):

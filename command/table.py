@@ -2,7 +2,7 @@
 import csv
 import io
 
-from command.history import Chip, follow
+from command.history import follow
 from command.report import FULL, Shown
 from command.trace import Event
 from command.words import event_words, reply_words
@@ -24,9 +24,8 @@ def output(case, options):
 
 
 def told(case):
-    """Number, event, what was shown, and the pointer before it."""
-    pointers = [chip.pointer for chip in (Chip(), *follow(case))]
-    return zip(range(1, len(case.events) + 1), case.events, case.shown, pointers)
+    """Number, event, what was shown, and the chip after it."""
+    return zip(range(1, len(case.events) + 1), case.events, case.shown, follow(case))
 
 
 def data_words(event, shown):
@@ -49,8 +48,8 @@ def table_of(case):
     rows = [list(HEAD), *(row(number, event, shown) for number, event, shown, _ in all_told)]
     widths = [max(map(len, column)) for column in zip(*rows)]
     others = sum(widths) - widths[WORDS] + sum(GAPS)
-    for cells, (_, event, shown, pointer) in zip(rows[1:], all_told):
-        cells[WORDS] = event_words(event, shown, pointer, WIDTH - others)
+    for cells, (_, event, shown, chip) in zip(rows[1:], all_told):
+        cells[WORDS] = event_words(event, shown, chip, WIDTH - others)
     widths[WORDS] = max(len(cells[WORDS]) for cells in rows)
     return "".join(line_of(cells, widths) for cells in rows)
 
@@ -65,8 +64,8 @@ def csv_of(case):
     text = io.StringIO()
     writer = csv.writer(text, lineterminator="\r\n")
     writer.writerow(CSV_HEAD)
-    for number, event, shown, pointer in told(case):
-        words = event_words(event, shown, pointer).replace("°C", "C")
+    for number, event, shown, chip in told(case):
+        words = event_words(event, shown, chip).replace("°C", "C")
         percents = [f"{100 * duty / FULL:.4g}" for duty in (shown.duty1, shown.duty2)]
         writer.writerow([number, *event, words, shown.answer, reply_words(event, shown), *shown[1:], data_words(event, shown), *percents])
     return text.getvalue()

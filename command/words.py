@@ -1,5 +1,5 @@
 """Events and answers in the words of the trade."""
-from command.registers import CHANNELS, LIMITS, REGISTERS, degrees
+from command.registers import CHANNELS, LIMITS, OFFSETS, REGISTERS, degrees, offset_degrees
 from command.trace import in_range
 
 NOT_OURS = 2  # the reply to a bus event for another address
@@ -31,26 +31,39 @@ def register_words(address):
     return f"0x{address:02X} {REGISTERS[address].name if address in REGISTERS else '(no register)'}"
 
 
-def power(event, shown, pointer):
+def degree_words(address, byte):
+    """What a byte is in degrees, in a limit or an offset."""
+    if address in OFFSETS:
+        offset = offset_degrees(byte)
+        return f", {'+' * (offset > 0)}{celsius(offset)}"
+    return f", {celsius(degrees(byte))}" if address in LIMITS else ""
+
+
+def power(event, shown, chip):
     broken = [name for name, error in zip(CHANNELS[1:], event[2:]) if error]
     return f"power at {event.who}" + (", diode error " if broken else "") + ", ".join(broken)
 
 
-def write(event, shown, pointer):
+def write(event, shown, chip):
     if shown.answer == NOT_OURS:
         return f"write to {event.who}: {register_words(event.arg)} = 0x{event.val:02X}"
-    limit = f", {celsius(degrees(event.val))}" if event.arg in LIMITS else ""
-    return f"write {register_words(event.arg)} = 0x{event.val:02X}{limit}"
+    return f"write {register_words(event.arg)} = 0x{event.val:02X}{degree_words(event.arg, event.val)}"
 
 
-def point(event, shown, pointer):
+def point(event, shown, chip):
     return f"point to {event.who}: {register_words(event.arg)}" if shown.answer == NOT_OURS else f"point {register_words(event.arg)}"
 
 
-def read(event, shown, pointer):
+def read(event, shown, chip):
     if shown.answer == NOT_OURS:
         return f"read from {event.who}"
-    return "read" if shown.answer else f"read {register_words(pointer)} -> 0x{shown.data:02X}"
+    return "read" if shown.answer else f"read {register_words(chip.pointer)} -> 0x{shown.data:02X}"
+
+
+def sample(event, shown, chip):
+    reading = event.val if shown.answer else chip.readings[event.who]
+    reads = f", reads {celsius(reading / 8)}" if reading != event.val else ""
+    return f"sample {CHANNELS[event.who]} {celsius(event.val / 8)}{reads}"
 
 
 WORDS = {
@@ -58,15 +71,15 @@ WORDS = {
     "write": write,
     "point": point,
     "read": read,
-    "sample": lambda event, shown, pointer: f"sample {CHANNELS[event.who]} {celsius(event.val / 8)}",
-    "tach": lambda event, shown, pointer: f"tach fan {event.who} count {event.val}",
-    "pin": lambda event, shown, pointer: f"pin {'high' if event.val else 'low'}",
-    "clock": lambda event, shown, pointer: "clock 0.1 s",
-    "period": lambda event, shown, pointer: f"period fan {event.who}",
+    "sample": sample,
+    "tach": lambda event, shown, chip: f"tach fan {event.who} count {event.val}",
+    "pin": lambda event, shown, chip: f"pin {'high' if event.val else 'low'}",
+    "clock": lambda event, shown, chip: "clock 0.1 s",
+    "period": lambda event, shown, chip: f"period fan {event.who}",
 }
 
 
-def event_words(event, shown, pointer, room=1000):
-    """The event in words, by the pointer as it stood before; where they need more room, the numbers of the trace."""
-    words = WORDS[event.kind](event, shown, pointer) if in_range(event) else "{} who={} arg={} val={}".format(*event)
+def event_words(event, shown, chip, room=1000):
+    """The event in words, by the chip after it; where they need more room, the numbers of the trace."""
+    words = WORDS[event.kind](event, shown, chip) if in_range(event) else "{} who={} arg={} val={}".format(*event)
     return words if len(words) <= room else "{} {} {} {}".format(*event)

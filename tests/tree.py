@@ -81,6 +81,12 @@ def need_program():
         sys.exit("keeper is missing, or cannot be run")
 
 
+def reading_of(channel, sample, byte):
+    """The rule for a sample under the byte of its offset register, worked out here once more for the tests."""
+    degrees = byte % 16 if byte < 128 else -(byte % 16)
+    return sorted((-1024, sample + 8 * degrees, 1023 if channel else 1022))[1]
+
+
 def text_of(events):
     """Events as `power 44 0 0, clock 0 0 0` to the text of a trace."""
     return "".join("kind={}\nwho={}\narg={}\nval={}\n".format(*event.split()) for event in events.split(",")).encode()

@@ -8,6 +8,7 @@ from command.chart.rows import axis, line_bands, mark_rows, spin_bands
 from command.chart.svg import HEADING, LEFT, STYLE, WIDTH, Plot, path, short, words_at
 from command.chart.temperatures import temperatures
 from command.history import follow
+from command.registers import CHANNELS
 from command.report import FULL
 
 TOP, GAP = 78, 24
@@ -46,6 +47,17 @@ def drawn(case, chips):
     return elements + more, y
 
 
+def offset_words(chips):
+    """The offset that stood at the samples of a channel, or the least and the most where there were several."""
+    marks = [mark for chip in chips for mark in chip.marks if mark.what == "offset"]
+    words = []
+    for channel, name in enumerate(CHANNELS):
+        stood = {mark.value for mark in marks if mark.part == channel}
+        if stood:
+            words.append(f"{name} {min(stood):+}" + f" to {max(stood):+}" * (len(stood) > 1))
+    return f"offsets: {', '.join(words)}; thin lines: samples" if words else ""
+
+
 def note_of(case):
     """Why the picture ends where it does, or None where the whole text was run."""
     if not case.ending:
@@ -67,7 +79,7 @@ def picture(title, case):
         f"<title>{html.escape(title)}</title><style>{STYLE}</style>",
         f'<rect class="paper" width="{WIDTH}" height="{height}"/>',
         words_at(LEFT, 28, title if len(title) <= 80 else title[:79] + "…", "title"),
-        words_at(LEFT, 47, f"{len(chips):,} event{'s' * (len(chips) != 1)}{seconds}", "subtitle"),
+        words_at(LEFT, 47, f"{len(chips):,} event{'s' * (len(chips) != 1)}{seconds}", "subtitle", offset_words(chips)),
         *elements,
         "</svg>\n",
     )))

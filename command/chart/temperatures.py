@@ -1,4 +1,4 @@
-"""The panel of the temperatures: readings, THERM limits and what holds their latches, high and low limits that set a bit."""
+"""The panel of the temperatures: readings, samples with an offset, THERM limits and their latches, high and low limits that set a bit."""
 from command.chart.curves import Panel, curves, ground, rounded_out
 from command.chart.svg import HEADING, LEFT, path, short, stretches, words_at
 from command.history import RELEASE
@@ -17,8 +17,12 @@ def line(style, name, values):
     return style, name, values, degree_words
 
 
+def in_degrees(eighths):
+    return [None if value is None else value / 8 for value in eighths]
+
+
 def readings_of(chips, channel):
-    return [None if chip.readings[channel] is None else chip.readings[channel] / 8 for chip in chips]
+    return in_degrees(chip.readings[channel] for chip in chips)
 
 
 def limits_of(chips, limits, channel):
@@ -27,14 +31,16 @@ def limits_of(chips, limits, channel):
 
 
 def lines_of(chips):
-    """The lines of the channels that have a reading; high and low limits only where they set a bit."""
-    set_bits = {(mark.what, mark.part) for chip in chips for mark in chip.marks}
+    """The lines of the channels that have a reading; high and low limits only where they set a bit, samples only where an offset stood."""
+    marks = {(mark.what, mark.part) for chip in chips for mark in chip.marks}
     for channel, (name, style) in enumerate(zip(CHANNELS, STYLES)):
         if set(readings_of(chips, channel)) != {None}:
             yield line(f"limit {style}", f"{name} THERM limit", limits_of(chips, THERM, channel))
             for what, limits in LIMITS.items():
-                if (what, channel) in set_bits:
+                if (what, channel) in marks:
                     yield line(f"{what} {style}", f"{name} {what} limit", limits_of(chips, limits, channel))
+            if ("offset", channel) in marks:
+                yield line(f"sample {style}", f"{name} sample", in_degrees(chip.samples[channel] for chip in chips))
             yield line(f"reading {style}", name, readings_of(chips, channel))
 
 

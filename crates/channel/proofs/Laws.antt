@@ -1,4 +1,4 @@
--- A reading, a diode error by the kind of the event; an event that is none of the channel's; a channel from its parts. Assumes nothing.
+-- A reading by the offset, a diode error by the kind of the event; an event that is none of the channel's; a channel from its parts. Assumes nothing.
 use Prim.Native.Nat.{ℕ}
 use mathlib.Core.Bool.{Bool, true, false, cond, not, _&&_, _||_}
 use mathlib.Core.Path.{_≡_, refl, sym, _∙_}
@@ -13,6 +13,7 @@ use Rattle.rules.specs.Registers.{statusAt}
 use Rattle.rules.specs.Temperatures.{limitBitsIn, thermBitIn}
 use Rattle.rules.specs.Targets.{tminOf}
 use Rattle.reading.specs.Limits.{latchedOf, runningOf, isHigh, isLow}
+use Rattle.reading.specs.Offset.{measuredOf}
 use Rattle.stored.specs.Stored.{channelRegistersOf}
 use Rattle.stored.specs.declared.ChannelRegisters.{ChannelRegisters}
 use Rattle.input.specs.Inputs.{isA, isSample, isRead, isRestart}
@@ -24,13 +25,18 @@ use Rattle.channel.specs.Channels.{readsStatus, untouchedIn, channelsAft
 use Rattle.channel.specs.declared.Channel.{Channel}
 use Rattle.channel.specs.declared.Channels.{Channels}
 
+pub sampled-is : (c : ChannelId) (m : Context) {l : ChannelRegisters} {t : ℕ}
+    → l ≡ channelRegistersOf (m .registers) c → t ≡ measuredOf c (l .offset) (m .input .sample) → t ≡ sampledIn c m
+unfolding sampledIn
+sampled-is c m el et = et ∙ rw el
+
 module _ (c : ChannelId) (m : Context) (was : ℕ) {f : Bool} (ef : f ≡ isRestart (m .input)) where
   pub reading-restart : f ≡ true → 1024 ≡ readingAfter c m was
   unfolding readingAfter
   reading-restart t = rw (sym ef ∙ t)
 
   module _ (nf : f ≡ false) {s : Bool} (es : s ≡ isSample c (m .input)) where
-    pub reading-sampled : {t : ℕ} → s ≡ true → t ≡ sampledIn m → t ≡ readingAfter c m was
+    pub reading-sampled : {t : ℕ} → s ≡ true → t ≡ sampledIn c m → t ≡ readingAfter c m was
     unfolding readingAfter
     reading-sampled t e = rw (sym ef ∙ nf, sym es ∙ t) e
 
@@ -68,7 +74,7 @@ module _ (c : ChannelId) (m : Context) (was : Channel) where
   -- ---- from the parts
 
   pub moved-is : {l : ChannelRegisters} {f g : FanId} {t r tm : ℕ} {la fl hi lo th er ms mr mh ml : Bool}
-      → l ≡ channelRegistersOf (m .registers) c → t ≡ sampledIn m → f ≡ limitBitsIn c → g ≡ thermBitIn c → tm ≡ tminOf (l .control)
+      → l ≡ channelRegistersOf (m .registers) c → t ≡ sampledIn c m → f ≡ limitBitsIn c → g ≡ thermBitIn c → tm ≡ tminOf (l .control)
       → ms ≡ latchedOf (was .latch) (l .therm) t → la ≡ flagAtSample c m ms (was .latch)
       → mr ≡ runningOf (was .flag) tm t → fl ≡ flagAtSample c m mr (was .flag)
       → mh ≡ isHigh (l .high) t → hi ≡ statusBitAfter c f m mh (was .high)

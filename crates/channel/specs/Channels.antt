@@ -1,4 +1,4 @@
--- Document 01, "Temperatures, latches and cards", rules 1 to 3, 5 and 7, and "Duty in slots", rule 1: a channel after an event.
+-- Document 01, "Temperatures, latches and cards", rules 1 to 3, 5 and 7, and "Duty in slots", rule 1, with T-01 of 02: a channel after an event.
 use Prim.Native.Nat.{ℕ}
 use mathlib.Core.Bool.{Bool, false, cond, not, _&&_, _||_}
 use lib.Dec.{eqb}
@@ -12,6 +12,7 @@ use Rattle.rules.specs.Fields.{channelEnabled}
 use Rattle.rules.specs.Temperatures.{limitBitsIn, thermBitIn}
 use Rattle.rules.specs.Targets.{tminOf}
 use Rattle.reading.specs.Limits.{latchedOf, runningOf, isHigh, isLow}
+use Rattle.reading.specs.Offset.{measuredOf}
 use Rattle.input.specs.declared.Input.{Input}
 use Rattle.input.specs.Inputs.{isA, isSample, isRead, isRestart, bitAfter}
 use Rattle.stored.specs.Stored.{channelRegistersOf}
@@ -21,13 +22,13 @@ use Rattle.channel.specs.declared.Channels.{Channels}
 
 -- m is what moves a channel: the event, the registers as they stand after it, the pointer as it stood before it
 
--- the reading that a sample makes
-abbrev pub sampledIn : Context → ℕ
-sampledIn m = m .input .sample
+-- T-01: the reading that a sample makes, by the channel's offset register as it stands
+unfoldable pub sampledIn : ChannelId → Context → ℕ
+sampledIn c m = measuredOf c (channelRegistersOf (m .registers) c .offset) (m .input .sample)
 
 -- 1: the last reading; 0, held as 1024, after power or reset
 unfoldable pub readingAfter : ChannelId → Context → ℕ → ℕ
-readingAfter c m was = cond (isRestart (m .input)) 1024 (cond (isSample c (m .input)) (sampledIn m) was)
+readingAfter c m was = cond (isRestart (m .input)) 1024 (cond (isSample c (m .input)) (sampledIn c m) was)
 
 -- a flag that a sample of the channel moves: off after power or reset, the next one at such a sample, else as it was
 unfoldable pub flagAtSample : ChannelId → Context → (next was : Bool) → Bool
@@ -35,11 +36,11 @@ flagAtSample c m next was = cond (isRestart (m .input)) false (cond (isSample c 
 
 -- 2: the latch, by the channel's THERM limit
 unfoldable pub latchAfter : ChannelId → Context → Bool → Bool
-latchAfter c m was = flagAtSample c m (latchedOf was (channelRegistersOf (m .registers) c .therm) (sampledIn m)) was
+latchAfter c m was = flagAtSample c m (latchedOf was (channelRegistersOf (m .registers) c .therm) (sampledIn c m)) was
 
 -- duty 1: the run flag, by the channel's Tmin
 unfoldable pub flagAfter : ChannelId → Context → Bool → Bool
-flagAfter c m was = flagAtSample c m (runningOf was (tminOf (channelRegistersOf (m .registers) c .control)) (sampledIn m)) was
+flagAfter c m was = flagAtSample c m (runningOf was (tminOf (channelRegistersOf (m .registers) c .control)) (sampledIn c m)) was
 
 abbrev pub channelOnIn : ChannelId → Context → Bool
 channelOnIn c m = channelEnabled c (m .registers .config2)
@@ -54,10 +55,10 @@ statusBitAfter c f m met was = bitAfter (isSample c (m .input) && (channelOnIn c
 
 -- 3: the high and low bits; the THERM bit at a latch going from off to on
 unfoldable pub highBitAfter : ChannelId → Context → Bool → Bool
-highBitAfter c m was = statusBitAfter c (limitBitsIn c) m (isHigh (channelRegistersOf (m .registers) c .high) (sampledIn m)) was
+highBitAfter c m was = statusBitAfter c (limitBitsIn c) m (isHigh (channelRegistersOf (m .registers) c .high) (sampledIn c m)) was
 
 unfoldable pub lowBitAfter : ChannelId → Context → Bool → Bool
-lowBitAfter c m was = statusBitAfter c (limitBitsIn c) m (isLow (channelRegistersOf (m .registers) c .low) (sampledIn m)) was
+lowBitAfter c m was = statusBitAfter c (limitBitsIn c) m (isLow (channelRegistersOf (m .registers) c .low) (sampledIn c m)) was
 
 unfoldable pub thermBitAfter : ChannelId → Context → (before after : Bool) → Bool → Bool
 thermBitAfter c m before after was = statusBitAfter c (thermBitIn c) m (not before && after) was
@@ -99,10 +100,11 @@ channelKept on was =
       error = was .error;
     }
 
--- an event that is none of any channel's, while all of them are enabled: it leaves them, which is proved
+-- a read of either status register
 abbrev pub readsStatus : Context → Bool
 readsStatus m = isRead (statusAt One) (m .pointer) (m .input) || isRead (statusAt Two) (m .pointer) (m .input)
 
+-- an event that is none of any channel's, while all of them are enabled: it leaves them, which is proved
 abbrev pub untouchedIn : Context → Bool
 untouchedIn m =
     not (isRestart (m .input) || (isA kind.Sample (m .input) || readsStatus m))

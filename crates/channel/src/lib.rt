@@ -29,11 +29,12 @@ pub struct Channels {
     pub remote2: Channel,
 }
 
-// The reading that a sample makes.
-fn sampled(m: Context) -> u16
-    ensures { λ t. ⌜ t ≡ sampledIn m ⌝ }
+// The reading that a sample makes, by the channel's offset register as it stands.
+fn sampled(c: ChannelId, m: Context) -> u16
+    ensures { λ t. ⌜ t ≡ sampledIn c m ⌝ }
 {
-    m.input.sample
+    let l = stored::channel_registers_of(m.registers, c);
+    reading::measured(c, l.offset, m.input.sample)
 }
 
 fn reading_after(c: ChannelId, m: Context, was: u16) -> u16
@@ -42,7 +43,7 @@ fn reading_after(c: ChannelId, m: Context, was: u16) -> u16
     if input::is_restart(m.input) {
         1024
     } else if input::is_sample(c, m.input) {
-        sampled(m)
+        sampled(c, m)
     } else {
         was
     }
@@ -120,7 +121,7 @@ fn channel_moved(c: ChannelId, m: Context, was: Channel) -> Channel
     ensures { λ b. ⌜ b ≡ channelAfter c m was ⌝ }
 {
     let l = stored::channel_registers_of(m.registers, c);
-    let t = sampled(m);
+    let t = sampled(c, m);
     let latch = flag_at_sample(c, m, reading::latched(was.latch, l.therm, t), was.latch);
     let runs = reading::running(was.flag, tmin(l.control), t);
     let flag = flag_at_sample(c, m, runs, was.flag);

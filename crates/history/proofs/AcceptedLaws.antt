@@ -31,7 +31,7 @@ use Rattle.input.specs.Inputs.{plainOf, eighthsHeld, inputOf, byteIn, isWrite, 
 use Rattle.stored.specs.Stored.{isCountAt}
 use Rattle.input.proofs.PlainLaws.{lies-plain, lies-number, count-is}
 
-in-range : (t : ℤ) → lies (fromTo (negsuc 1023) (pos 1023)) t ≡ true → eighthsOf t ≡ In (eighthsHeld t)
+pub in-range : (t : ℤ) → lies (fromTo (negsuc 1023) (pos 1023)) t ≡ true → eighthsOf t ≡ In (eighthsHeld t)
 unfolding eighthsOf
 in-range (pos n) z = rw (lt-ltb n 1024 (omega (arith, leb-true n 1023 z)))
 in-range (negsuc n) z = rw (lt-ltb n 1024 (omega (arith, leb-true n 1023 (both (leb n 1023) true z .0))))

@@ -40,7 +40,6 @@ use Rattle.keeper.specs.declared.Outcome.{Outcome}
 use Rattle.history.specs.Agreement.{run, Agreement}
 use Rattle.history.proofs.State.{portBy, channelRegistersBy, fanRegistersBy, registersBy, contextBy, channelBy, channelsBy, fanBy, chipBy, stateBy}
 use Rattle.rules.proofs.TakenLaws.{Took, none, more, took, went, on-after, off-none, own-small}
-use Rattle.history.proofs.HeldLaws.{Held, held, held-after}
 use Rattle.rules.proofs.StoredLaws.{byte}
 use Rattle.history.proofs.StepLaws.{where-on, port-is, registers-is, channels-is}
 use Rattle.history.proofs.FanLaws.{fan-is}
@@ -48,10 +47,10 @@ use Rattle.history.proofs.ValueLaws.{value-is, shown-on}
 
 -- ---- one event
 
-module _ (e : Event) (d : Taken) (fine : replies.outOfRange e ≡ false) (small : (a : ℕ) → storedAt a (e ∷ d) < 256) (held : Held (e ∷ d)) where
+module _ (e : Event) (d : Taken) (fine : replies.outOfRange e ≡ false) (small : (a : ℕ) → storedAt a (e ∷ d) < 256) where
   with-is : chipWith (portBy (e ∷ d)) (contextBy e d) (channelsBy (e ∷ d)) (chipBy d) ≡ chipBy (e ∷ d)
   unfolding chipWith chipBy portBy
-  with-is = rw (fan-is e d fine held One, fan-is e d fine held Two)
+  with-is = rw (fan-is e d fine One, fan-is e d fine Two)
 
   chip-is : chipAfter (inputOf e) (chipBy d) ≡ chipBy (e ∷ d)
   unfolding chipAfter chipUnder chipBy portBy
@@ -87,10 +86,10 @@ read-on e d go r = with-power (powered d) (placeOf (kindOf e)) (eqb-true (placeO
 data-is : (e : Event) {d : Taken} → Took d → accepts (replyTo e d) ≡ true
     → keeping.dataFor (chipBy d) (inputOf e) ≡ cond (isKind kind.Read e) (shows.value (pointer d) d) 0
 unfolding chipBy portBy
-data-is e {d} t go = where-on (isKind kind.Read e) 0 (λ r. value-is t (held t) (read-on e d go r) (pointer d))
+data-is e {d} t go = where-on (isKind kind.Read e) 0 (λ r. value-is t (read-on e d go r) (pointer d))
 
 moved : (e : Event) {d : Taken} → Took d → accepts (replyTo e d) ≡ true → chipAfter (inputOf e) (chipBy d) ≡ chipBy (e ∷ d)
-moved e {d} t go = let fine = went e d go .range in chip-is e d fine (λ a. byte a (more go t)) (held-after e d fine (held t))
+moved e {d} t go = let fine = went e d go .range in chip-is e d fine (λ a. byte a (more go t))
 
 zero-shown : shows.shown [] ≡ record { int = 0; therm = 0; fault = 0; duty1 = 0; duty2 = 0 }
 unfolding shows.shown shows.intAsserted shows.faultAsserted thermAsserted storedAt latch duty spin
@@ -136,7 +135,7 @@ module _ (e : Event) (h : History) where
 values-is : {d : Taken} → Took d → powered d ≡ true → (a n : ℕ) → keeping.imageFrom a n (chipBy d) ≡ shows.valuesFrom a n d
 unfolding keeping.imageFrom shows.valuesFrom
 values-is t on a zero = refl
-values-is t on a (suc n) = rw (value-is t (held t) on a, values-is t on (suc a) n)
+values-is t on a (suc n) = rw (value-is t on a, values-is t on (suc a) n)
 
 image-is : (d : Taken) (buffer : List ℕ) → keeping.imageAnswer (stateBy d) buffer ≡ shows.imageReply buffer d
 unfolding keeping.imageAnswer stateBy shows.imageReply

@@ -36,16 +36,16 @@ use Rattle.fan.specs.Fans.{fanTarget, settingOf, priorFan, judgesFan, failsFan,
 use Rattle.fan.specs.declared.Fan.{Fan}
 use Rattle.history.proofs.State.{channelRegistersBy, fanRegistersBy, registersBy, contextBy, channelBy, channelsBy, settingBy, driveBy, fanBy}
 use Rattle.history.proofs.AcceptedLaws.{counted-is, restart-is}
-use Rattle.history.proofs.HeldLaws.{Held}
+use Rattle.history.proofs.HeldLaws.{held}
 
 -- ---- what is asked of a fan
 
 module _ (f : FanId) (d : Taken) where
-  demand-is : Held d → (c : ChannelId)
+  demand-is : (c : ChannelId)
       → demandOf (flag c d) (speedCode f (storedAt speeds d)) (tminOf (storedAt (controlAt c) d)) (rangeOf (storedAt (controlAt c) d))
       (eighthsHeld (temperature c d)) ≡ demand f c d
   unfolding demand
-  demand-is held c = faithful-demand (temperature c d) (eighthsHeld (temperature c d)) (held c) _ _ _ _
+  demand-is c = faithful-demand (temperature c d) (eighthsHeld (temperature c d)) (held d c) _ _ _ _
 
   own-registers : fanRegistersOf (registersBy d) f ≡ fanRegistersBy f d
   unfolding registersBy
@@ -55,9 +55,9 @@ module _ (f : FanId) (d : Taken) where
       own One = refl
       own Two = refl
 
-  pub setting-is : Held d → settingOf f (pinLow d) (registersBy d) (channelsBy d) ≡ settingBy f d
+  pub setting-is : settingOf f (pinLow d) (registersBy d) (channelsBy d) ≡ settingBy f d
   unfolding settingOf fanTarget settingBy target overridden thermAsserted registersBy channelRegistersBy fanRegistersBy channelsBy channelBy
-  setting-is held = rw (own-registers, demand-is held Local, demand-is held Remote1, demand-is held Remote2)
+  setting-is = rw (own-registers, demand-is Local, demand-is Remote1, demand-is Remote2)
 
 -- ---- spin-up: counting what was given and the clocks since is counting down what is left
 
@@ -101,7 +101,7 @@ run-law true false false false n calm = refl
 
 -- ---- a fan
 
-module _ (e : Event) (d : Taken) (fine : replies.outOfRange e ≡ false) (held : Held (e ∷ d)) (f : FanId) where
+module _ (e : Event) (d : Taken) (fine : replies.outOfRange e ≡ false) (f : FanId) where
   abbrev w : Spin
   w = prior e (spin f d)
 
@@ -147,4 +147,4 @@ module _ (e : Event) (d : Taken) (fine : replies.outOfRange e ≡ false) (held :
 
   pub fan-is : fanAfter f (pinLow (e ∷ d)) (contextBy e d) (channelsBy (e ∷ d)) (fanBy f d) ≡ fanBy f (e ∷ d)
   unfolding fanAfter
-  fan-is = rw (setting-is f (e ∷ d) held) under-is
+  fan-is = rw (setting-is f (e ∷ d)) under-is

@@ -10,6 +10,7 @@ use lib.IntN.{ℤ, pos}
 use Rattle.integer.proofs.BoolLaws.{by-cases, either, both}
 use Rattle.integer.specs.Bits.{mergedOf}
 use Rattle.integer.specs.Range.{eighthsOf}
+use Rattle.integer.specs.declared.Ranged.the-variants.{In}
 use Rattle.part.specs.declared.ChannelId.{ChannelId}
 use Rattle.part.specs.declared.ChannelId.the-variants.{Local, Remote1, Remote2}
 use Rattle.part.specs.declared.FanId.{FanId}
@@ -22,16 +23,18 @@ use Rattle.rules.specs.Registers.{maskAt, resetAt}
 use Rattle.rules.specs.Events.{who, arg, val, isNumber, natural, registerGiven, byteGiven, samples, measures, reads, writes, restarts}
 use Rattle.rules.specs.Stored.{Taken, powered, ownAddress, counts, storedAt, pointer, pinLow, errorGiven, diodeError, pulledBit}
 use Rattle.rules.specs.Replies as replies
+use Rattle.rules.specs.Offsets.{measured}
 use Rattle.rules.specs.Temperatures.{temperature, limit, latch, channelOn, limitBitsIn, thermBitIn, clears, highBit, lowBit, thermBit}
 use Rattle.rules.specs.Targets.{tminOf, flag}
 use Rattle.rules.proofs.StoredLaws.{count-tach}
 use Rattle.reading.specs.Faithful.{Faithful}
 use Rattle.reading.proofs.FaithfulLaws.{faithful}
+use Rattle.reading.proofs.OffsetLaws.{faithful-offset}
 use Rattle.input.specs.Inputs.{plainOf, eighthsHeld, inputOf, bitAfter}
 use Rattle.input.proofs.PlainLaws.{plain-is, sample-is}
 use Rattle.stored.specs.Stored.{storedAfter, channelBytes, fanBytes, bytes, registersAfter, channelRegistersOf}
-use Rattle.channel.specs.Channels.{readingAfter, flagAtSample, latchAfter, flagAfter, clearsBit, statusBitAfter, highBitAfter, lowBitAfter, thermBitAfter}
-use Rattle.channel.specs.Channels.{errorIn, errorAfter, channelAfter, channelsAfter}
+use Rattle.channel.specs.Channels.{sampledIn, readingAfter, flagAtSample, latchAfter, flagAfter, clearsBit, statusBitAfter, highBitAfter, lowBitAfter}
+use Rattle.channel.specs.Channels.{thermBitAfter, errorIn, errorAfter, channelAfter, channelsAfter}
 use Rattle.channel.specs.declared.Channel.{Channel}
 use Rattle.chip.specs.Chips.{portAfter}
 use Rattle.chip.specs.declared.Port.{Port}
@@ -105,17 +108,6 @@ module _ (e : Event) (d : Taken) (fine : replies.outOfRange e ≡ false) where
 -- ---- a channel
 
 module _ (e : Event) (d : Taken) (fine : replies.outOfRange e ≡ false) (small : (a : ℕ) → storedAt a (e ∷ d) < 256) (c : ChannelId) where
-  -- an accepted sample is held as what it is
-  stands : samples c e ≡ true → Faithful (val e) (eighthsHeld (val e))
-  stands y = faithful (val e) (eighthsHeld (val e)) (sample-held e fine (both (isKind kind.Sample e) _ y .0))
-
-  reading-is : readingAfter c (contextBy e d) (eighthsHeld (temperature c d)) ≡ eighthsHeld (temperature c (e ∷ d))
-  unfolding readingAfter temperature eighthsOf
-  reading-is =
-      rw (restart-is e fine, sample-is c e)
-      (ap (cond (restarts e) 1024) (over-cond eighthsHeld (samples c e) (val e) (temperature c d))
-      ∙ over-cond eighthsHeld (restarts e) (pos 0) (cond (samples c e) (val e) (temperature c d)))
-
   own-registers : channelRegistersOf (registersBy (e ∷ d)) c ≡ channelRegistersBy c (e ∷ d)
   unfolding registersBy
   own-registers = own c
@@ -124,6 +116,25 @@ module _ (e : Event) (d : Taken) (fine : replies.outOfRange e ≡ false) (small 
       own Local = refl
       own Remote1 = refl
       own Remote2 = refl
+
+  -- an accepted sample is held as what it is, and so is the reading that it makes
+  sampled-held : samples c e ≡ true → eighthsOf (measured c e d) ≡ In (sampledIn c (contextBy e d))
+  unfolding sampledIn channelRegistersBy
+  sampled-held y =
+      rw own-registers
+      (faithful-offset c (storedAt (offsetAt c) (e ∷ d)) (val e) (eighthsHeld (val e)) (sample-held e fine (both (isKind kind.Sample e) _ y .0)))
+
+  stands : samples c e ≡ true → Faithful (measured c e d) (sampledIn c (contextBy e d))
+  stands y = faithful (measured c e d) (sampledIn c (contextBy e d)) (sampled-held y)
+
+  reading-is : readingAfter c (contextBy e d) (eighthsHeld (temperature c d)) ≡ eighthsHeld (temperature c (e ∷ d))
+  unfolding readingAfter temperature eighthsOf
+  reading-is =
+      rw (restart-is e fine, sample-is c e)
+      (ap (cond (restarts e) 1024)
+      (where-on (samples c e) (eighthsHeld (temperature c d)) (λ y. sym (rw (sampled-held y)))
+      ∙ over-cond eighthsHeld (samples c e) (measured c e d) (temperature c d))
+      ∙ over-cond eighthsHeld (restarts e) (pos 0) (cond (samples c e) (measured c e d) (temperature c d)))
 
   latch-is : latchAfter c (contextBy e d) (latch c d) ≡ latch c (e ∷ d)
   unfolding flagAtSample latchAfter latch channelRegistersBy

@@ -20,17 +20,14 @@ use Rattle.event.specs.declared.Event.{Event}
 use Rattle.rules.specs.Registers.{Row, says, table, config1, extended, device, company, maskAt, resetAt, existsAt}
 use Rattle.rules.specs.Events.{byteGiven, restarts, writes}
 use Rattle.rules.specs.Stored.{Taken, powered, counts, storedAt, diodeError, pulledBit}
-use Rattle.rules.specs.Temperatures.{temperature, thermAsserted, channelOn, highBit, lowBit, thermBit}
+use Rattle.rules.specs.Temperatures.{thermAsserted, channelOn, highBit, lowBit, thermBit}
 use Rattle.rules.specs.Duties.{duty, failures, alarmBit, faultBit}
 use Rattle.rules.specs.Shows.{status, byteAt, value, pending, intAsserted, faultAsserted, shown}
-use Rattle.reading.specs.Faithful.{Faithful}
-use Rattle.reading.proofs.FaithfulLaws.{faithful}
-use Rattle.input.specs.Inputs.{eighthsHeld}
 use Rattle.stored.specs.Stored.{cells, found, storedIn}
 use Rattle.output.specs.Outputs.{statusOf, registerAt, intOf, faultOf, shownOf}
 use Rattle.history.proofs.State.{portBy, channelRegistersBy, fanRegistersBy, registersBy, channelBy, channelsBy, fanBy, chipBy}
 use Rattle.rules.proofs.TakenLaws.{Took, none, more}
-use Rattle.history.proofs.HeldLaws.{Held}
+use Rattle.history.proofs.HeldLaws.{stands}
 
 -- ---- the two registers that nothing changes
 
@@ -81,30 +78,27 @@ at-row P (_▹_ {r = r} p ps) a y =
     (λ q. subst P (sym (eqb-true a (r .address) q)) p)
     (λ q. at-row P ps a (rw q at y))
 
-module _ (d : Taken) (v : storedAt device d ≡ 0x31) (c : storedAt company d ≡ 0x41) (held : Held d) where
+module _ (d : Taken) (v : storedAt device d ≡ 0x31) (c : storedAt company d ≡ 0x41) where
   abbrev Same : ℕ → Type 0
   Same a = registerAt (chipBy d) a ≡ value a d
 
-  stands : (c : ChannelId) → Faithful (temperature c d) (eighthsHeld (temperature c d))
-  stands c = faithful (temperature c d) (eighthsHeld (temperature c d)) (held c)
-
   extended-same : Same extended
   unfolding registerAt value byteAt existsAt chipBy channelsBy channelBy
-  extended-same = rw (stands Local .rest, stands Remote1 .rest, stands Remote2 .rest)
+  extended-same = rw (stands d Local .rest, stands d Remote1 .rest, stands d Remote2 .rest)
 
   rows-same : All Same table
   unfolding table registerAt value byteAt existsAt storedIn cells found chipBy portBy fanBy registersBy channelRegistersBy fanRegistersBy channelsBy
       channelBy statusOf status
   rows-same =
-      refl ▹ refl ▹ refl ▹ refl ▹ extended-same ▹ refl ▹ refl ▹ refl ▹ stands Local .whole ▹ stands Remote1 .whole ▹ stands Remote2 .whole
+      refl ▹ refl ▹ refl ▹ refl ▹ extended-same ▹ refl ▹ refl ▹ refl ▹ stands d Local .whole ▹ stands d Remote1 .whole ▹ stands d Remote2 .whole
       ▹ refl ▹ refl ▹ refl ▹ refl ▹ refl ▹ refl ▹ refl ▹ refl ▹ refl ▹ refl ▹ refl ▹ refl ▹ refl ▹ refl ▹ refl ▹ refl ▹ refl ▹ refl ▹ refl ▹ refl ▹ refl
       ▹ sym v ▹ sym c ▹ refl ▹ done
 
-pub value-is : {d : Taken} → Took d → Held d → powered d ≡ true → (a : ℕ) → registerAt (chipBy d) a ≡ value a d
+pub value-is : {d : Taken} → Took d → powered d ≡ true → (a : ℕ) → registerAt (chipBy d) a ≡ value a d
 unfolding registerAt value existsAt
-value-is {d} t held on a =
+value-is {d} t on a =
     by-cases (existsAt a)
-    (λ y. at-row (Same d (device-is t on) (company-is t on) held) (rows-same d (device-is t on) (company-is t on) held) a y)
+    (λ y. at-row (Same d (device-is t on) (company-is t on)) (rows-same d (device-is t on) (company-is t on)) a y)
     (λ y. rw y)
 
 -- ---- outputs

@@ -22,7 +22,7 @@ pub record Proved (h : History) : Type 0 where
   pub readback : Readback h
   -- demand 3: full under override, else at the target, by the ramp's formula where filtered
   pub demand3 : Demand3 h
-  -- the rules say what document 01 says, sentence by sentence
+  -- the rules say what document 01, and T-01 of document 02, say, sentence by sentence
   pub page : Page h
   -- the engine's counts are those taken from the list
   pub counts : Counts h

@@ -1,11 +1,11 @@
 -- A reading that is held with 1024 added stands for its t: the rules in signed numbers. Assumes nothing.
-use Prim.Native.Nat.{ℕ, suc, _+_, _-_, _*_, _%_, _<_, _≤_}
+use Prim.Native.Nat.{ℕ, zero, suc, _+_, _-_, _*_, _%_, _<_, _≤_}
 use mathlib.Core.Path.{_≡_, refl, sym, ap, _∙_}
 use mathlib.Core.Bool.{Bool, true, false, cond}
 use native.Mathlib.Omega.{arith}
 use borrow.Author.Tests.{ltb-true, ltb-false, lt-ltb, le-ltb}
 use lib.Dec.{ltb}
-use lib.IntN.{ℤ, pos, negsuc, _+ℤ_, _-ℤ_, _*ℤ_, subℕ}
+use lib.IntN.{ℤ, pos, negsuc, _+ℤ_, _-ℤ_, _*ℤ_, subℕ, +ℤ-idr}
 use lib.Signed.{ltZ}
 use Rattle.integer.specs.Range.{eighthsOf}
 use Rattle.integer.specs.declared.Ranged.the-variants.{In, Out}
@@ -16,7 +16,7 @@ use Rattle.rules.specs.Temperatures.{wholeByte, remainder, degrees, hysteresis}
 use Rattle.reading.specs.Faithful.{Faithful}
 
 -- z is n - k
-unfoldable Lifted : (k n : ℕ) → ℤ → Type 0
+unfoldable pub Lifted : (k n : ℕ) → ℤ → Type 0
 Lifted k n (pos m) = n ≡ k + m
 Lifted k n (negsuc m) = n + suc m ≡ k
 
@@ -63,11 +63,12 @@ lifted-pos : (k m : ℕ) → Lifted k (k + m) (pos m)
 unfolding Lifted
 lifted-pos k m = refl
 
--- five less, eight times as much, and e more
-less-five : (k n : ℕ) (z : ℤ) → Lifted k n z → Lifted (k + 5) n (z -ℤ pos 5)
+-- j less, eight times as much, and e more
+pub less : (j k n : ℕ) (z : ℤ) → Lifted k n z → Lifted (k + j) n (z -ℤ pos j)
 unfolding Lifted
-less-five k n (pos m) p = lift-sub (k + 5) n m 5 (omega arith)
-less-five k n (negsuc m) p = omega arith
+less zero k n z p = rw +ℤ-idr (move k n (k + 0) n z (omega arith) refl p)
+less (suc j) k n (pos m) p = lift-sub (k + suc j) n m (suc j) (omega arith)
+less (suc j) k n (negsuc m) p = omega arith
 
 negated : (x : ℕ) → 8 * suc x ≡ suc (8 * x + 7)
 negated x = omega arith
@@ -77,7 +78,7 @@ unfolding Lifted
 times-eight k n (pos m) p = omega arith
 times-eight k n (negsuc m) p = rw (negated m) (omega arith)
 
-more : (e k n : ℕ) (z : ℤ) → Lifted k n z → Lifted k (n + e) (z +ℤ pos e)
+pub more : (e k n : ℕ) (z : ℤ) → Lifted k n z → Lifted k (n + e) (z +ℤ pos e)
 unfolding Lifted
 more e k n (pos m) p = omega arith
 more e k n (negsuc m) p = lift-sub k (n + e) e (suc m) (omega arith)
@@ -91,7 +92,7 @@ lift-byte b h = go (ltb b 128) refl
     go true e = omega (arith, ltb-true b 128 e)
     go false e = omega (arith, ltb-false b 128 e)
 
-lift-reading : (t : ℤ) (r : ℕ) → eighthsOf t ≡ In r → Lifted 1024 r t × (r < 2048)
+pub lift-reading : (t : ℤ) (r : ℕ) → eighthsOf t ≡ In r → Lifted 1024 r t × (r < 2048)
 unfolding Lifted eighthsOf
 lift-reading (pos n) r e = go (ltb n 1024) refl e
   where
@@ -119,7 +120,7 @@ module _ (t : ℤ) (r : ℕ) (e : eighthsOf t ≡ In r) (z : ℤ) (base : ℕ) (
   far-beneath =
       lifted-lt 1064 (r + 40) (8 * base) t (pos 8 *ℤ (z -ℤ pos 5))
       (shift 40 1024 r t (lift-reading t r e .0))
-      (times-eight 133 base (z -ℤ pos 5) (less-five 128 base z at))
+      (times-eight 133 base (z -ℤ pos 5) (less 5 128 base z at))
 
   hysteresis-is : (on : Bool) → hysteresisOf on (8 * base) r ≡ hysteresis on z t
   hysteresis-is on = rw (above, far-beneath)

@@ -1,3 +1,4 @@
 pub mod Reading
 pub mod Limits
 pub mod Faithful
+pub mod Offset

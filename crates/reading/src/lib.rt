@@ -1,10 +1,51 @@
-// Readings in eighths of a degree and the bytes that show them, both ways; the two kinds of hysteresis.
+// Readings in eighths of a degree: what a sample makes, the bytes that show them, both ways, and the two kinds of hysteresis.
 // A reading of t eighths is held as t + 1024, so that no number here is negative.
 use part::ChannelId;
 ghost use mathlib.Core.Path.{_≡_};
 ghost use Prim.Native.Nat.{_+_, _*_};
 ghost use Rattle.reading.specs.Reading.{byteOf, remainderOf, readingOf, extendedOf, remainderIn};
 ghost use Rattle.reading.specs.Limits.{edgeOf, hysteresisOf, latchedOf, runningOf, isHigh, isLow};
+ghost use Rattle.reading.specs.Offset.{topOf, shiftedOf, measuredOf};
+
+// ---- samples and offsets
+
+// The highest reading.
+fn top(c: ChannelId) -> u16
+    ensures { λ r. ⌜ r ≡ topOf c ⌝ }
+{
+    match c {
+        ChannelId::Local => 2046,
+        ChannelId::Remote1 => 2047,
+        ChannelId::Remote2 => 2047,
+    }
+}
+
+// A sample and eight times the degrees of an offset, which its sign bit subtracts; not below 0.
+fn shifted(offset: u8, sample: u16) -> u32
+    ensures { λ r. ⌜ r ≡ shiftedOf offset sample ⌝ }
+{
+    let eighths = 8 * (offset as u32 % 16);
+    if integer::bit(offset, 7) {
+        if eighths < sample as u32 {
+            return sample as u32 - eighths;
+        }
+        return 0;
+    }
+    sample as u32 + eighths
+}
+
+// The reading that a sample makes, by the byte of the channel's offset register.
+pub fn measured(c: ChannelId, offset: u8, sample: u16) -> u16
+    ensures { λ r. ⌜ r ≡ measuredOf c offset sample ⌝ }
+{
+    let highest = top(c);
+    let t = shifted(offset, sample);
+    if t < highest as u32 {
+        t as u16
+    } else {
+        highest
+    }
+}
 
 // ---- readings and bytes
 

@@ -1,8 +1,11 @@
--- What an event that is no power and no write leaves as it was: bytes, the settings of a fan, targets and override. Assumes nothing.
+-- What an event that is no power and no write leaves as it was, and what one that touches nothing of it leaves to a fan. Assumes nothing.
 use Prim.Native.Nat.{ℕ}
 use mathlib.Core.Path.{_≡_, refl}
-use mathlib.Core.Bool.{false}
+use mathlib.Core.Bool.{Bool, true, false, not, _||_}
 use mathlib.Core.List.{_∷_}
+use lib.Dec.{eqb}
+use borrow.Author.Tests.{not-true}
+use Rattle.integer.proofs.BoolLaws.{neither}
 use Rattle.part.specs.declared.ChannelId.{ChannelId}
 use Rattle.part.specs.declared.ChannelId.the-variants.{Local, Remote1, Remote2}
 use Rattle.part.specs.declared.FanId.{FanId}
@@ -29,11 +32,6 @@ module _ (e : Event) (d : Taken) (no-power : isKind kind.Power e ≡ false) (no-
   unfolding storedAt
   byte-same a q = simp (no-power, no-write, q)
 
-  pub control-same : (c : ChannelId) → storedAt (controlAt c) (e ∷ d) ≡ storedAt (controlAt c) d
-  control-same Local = byte-same 0x24 refl
-  control-same Remote1 = byte-same 0x25 refl
-  control-same Remote2 = byte-same 0x26 refl
-
   pub limit-same : (f : FanId) → storedAt (tachLimitAt f) (e ∷ d) ≡ storedAt (tachLimitAt f) d
   limit-same One = byte-same 0x10 refl
   limit-same Two = byte-same 0x11 refl
@@ -42,32 +40,68 @@ module _ (e : Event) (d : Taken) (no-power : isKind kind.Power e ≡ false) (no-
   spin-up-same One = byte-same 0x20 refl
   spin-up-same Two = byte-same 0x21 refl
 
-  -- no sample: run flags, latches and demands stay too; and no pin: override
+  -- no sample: run flags, latches and readings stay too
   module _ (no-sample : isKind kind.Sample e ≡ false) where
     pub flag-same : (c : ChannelId) → flag c (e ∷ d) ≡ flag c d
     unfolding flag
     flag-same c = simp (no-power, no-write, no-sample)
 
-    pub latch-same : (c : ChannelId) → latch c (e ∷ d) ≡ latch c d
+    latch-same : (c : ChannelId) → latch c (e ∷ d) ≡ latch c d
     unfolding latch
     latch-same c = simp (no-power, no-write, no-sample)
 
-    pub temperature-same : (c : ChannelId) → temperature c (e ∷ d) ≡ temperature c d
+    temperature-same : (c : ChannelId) → temperature c (e ∷ d) ≡ temperature c d
     unfolding temperature
     temperature-same c = simp (no-power, no-write, no-sample)
 
-    demand-same : (f : FanId) (c : ChannelId) → demand f c (e ∷ d) ≡ demand f c d
-    unfolding demand
-    demand-same f c = rw (flag-same c, temperature-same c, control-same c, byte-same speeds refl)
+-- ---- an event that is nothing to a fan but by its kind: its settings, readings, latches, run flags and the pin stay
 
-    pub target-same : (f : FanId) → target f (e ∷ d) ≡ target f d
-    unfolding target
-    target-same f = rw (demand-same f Local, demand-same f Remote1, demand-same f Remote2, byte-same config1 refl, byte-same speeds refl)
+-- a register that a fan goes by: no count and no offset
+abbrev pub isSetting : ℕ → Bool
+isSetting a = not ((eqb a 0x08 || eqb a 0x09) || (eqb a 0x0D || (eqb a 0x0E || eqb a 0x0F)))
 
-    pub therm-same : thermAsserted (e ∷ d) ≡ thermAsserted d
-    unfolding thermAsserted
-    therm-same = rw (latch-same Local, latch-same Remote1, latch-same Remote2)
+pub record Untouched (e : Event) (d : Taken) : Type 0 where
+  pub calm : restarts e ≡ false
+  pub byte : (a : ℕ) → isSetting a ≡ true → storedAt a (e ∷ d) ≡ storedAt a d
+  pub reading : (c : ChannelId) → temperature c (e ∷ d) ≡ temperature c d
+  pub latch : (c : ChannelId) → latch c (e ∷ d) ≡ latch c d
+  pub flag : (c : ChannelId) → flag c (e ∷ d) ≡ flag c d
+  pub pin : pinLow (e ∷ d) ≡ pinLow d
 
-    pub override-same : isKind kind.Pin e ≡ false → overridden (e ∷ d) ≡ overridden d
-    unfolding overridden pinLow
-    override-same no-pin = rw (no-power, no-pin, therm-same, byte-same behaviour refl)
+-- one that is no power, write, sample or pin
+pub untouched :
+    (e : Event) (d : Taken) → isKind kind.Power e ≡ false → isKind kind.Write e ≡ false → isKind kind.Sample e ≡ false → isKind kind.Pin e ≡ false →
+    Untouched e d
+untouched e d no-power no-write no-sample no-pin =
+    record {
+      calm = no-restart e d no-power no-write;
+      byte = λ a y.
+          let speed = neither (eqb a 0x08 || eqb a 0x09) _ (not-true _ y) .0 in
+          byte-same e d no-power no-write a (rw (neither (eqb a 0x08) (eqb a 0x09) speed .0, neither (eqb a 0x08) (eqb a 0x09) speed .1));
+      reading = temperature-same e d no-power no-write no-sample;
+      latch = latch-same e d no-power no-write no-sample;
+      flag = flag-same e d no-power no-write no-sample;
+      pin = (unfold pinLow in rw (no-power, no-pin));
+    }
+
+module _ (e : Event) (d : Taken) (u : Untouched e d) where
+  control-same : (c : ChannelId) → storedAt (controlAt c) (e ∷ d) ≡ storedAt (controlAt c) d
+  control-same Local = u .byte 0x24 refl
+  control-same Remote1 = u .byte 0x25 refl
+  control-same Remote2 = u .byte 0x26 refl
+
+  pub demand-same : (f : FanId) (c : ChannelId) → demand f c (e ∷ d) ≡ demand f c d
+  unfolding demand
+  demand-same f c = rw (u .flag c, u .reading c, control-same c, u .byte speeds refl)
+
+  pub target-same : (f : FanId) → target f (e ∷ d) ≡ target f d
+  unfolding target
+  target-same f = rw (demand-same f Local, demand-same f Remote1, demand-same f Remote2, u .byte config1 refl, u .byte speeds refl)
+
+  pub therm-same : thermAsserted (e ∷ d) ≡ thermAsserted d
+  unfolding thermAsserted
+  therm-same = rw (u .latch Local, u .latch Remote1, u .latch Remote2)
+
+  pub override-same : overridden (e ∷ d) ≡ overridden d
+  unfolding overridden
+  override-same = rw (u .pin, therm-same, u .byte behaviour refl)

@@ -1,9 +1,7 @@
 -- What a sample and other events do to the latch and the status bits of a channel, by the registers that a user reads. Assumes nothing.
-use Prim.Native.Nat.{ℕ}
 use mathlib.Core.Path.{_≡_, refl}
 use mathlib.Core.Bool.{Bool, true, false, cond, not, _&&_, _||_, or-true}
 use mathlib.Core.List.{_∷_}
-use lib.Dec.{eqb}
 use lib.IntN.{ℤ, pos, _*ℤ_}
 use lib.Signed.{ltZ}
 use Rattle.integer.specs.Bits.{bitOf}
@@ -14,15 +12,18 @@ use Rattle.event.specs.declared.Event.{Event}
 use Rattle.event.specs.declared.Kind.the-variants as kind
 use Rattle.rules.specs.Registers.{existsAt}
 use Rattle.rules.specs.Stored.{Taken, storedAt}
+use Rattle.rules.specs.Offsets.{measured}
 use Rattle.rules.specs.Temperatures.{degrees, hysteresis, latch, thermAsserted, highBit, lowBit, thermBit}
 use Rattle.rules.specs.Shows.{byteAt, value, shown}
-use Rattle.rules.specs.PageWords.{byChannel, read, write, sampled}
+use Rattle.rules.specs.PageWords.{byChannel, read, sampled}
 use Rattle.rules.proofs.StayLaws.{another, sampled-kind}
 
 -- ---- the latch
 
 module _ (d : Taken) where
-  pub latch-after : (c : ChannelId) (t : ℤ) → latch c (sampled c t ∷ d) ≡ hysteresis (latch c d) (degrees (value (byChannel 0x16 0x1A 0x1E c) d)) t
+  pub latch-after :
+      (c : ChannelId) (t : ℤ) →
+      latch c (sampled c t ∷ d) ≡ hysteresis (latch c d) (degrees (value (byChannel 0x16 0x1A 0x1E c) d)) (measured c (sampled c t) d)
   unfolding latch value byteAt existsAt storedAt
   latch-after Local t = refl
   latch-after Remote1 t = refl
@@ -37,10 +38,6 @@ module _ (d : Taken) where
   pub latch-another : (c other : ChannelId) (t : ℤ) → (c ≡ other → ⊥) → latch c (sampled other t ∷ d) ≡ latch c d
   unfolding latch
   latch-another c other t n = rw (another c other t n, sampled-kind kind.Power other t, sampled-kind kind.Write other t)
-
-  pub latch-write : (c : ChannelId) (w : ℤ) (a b : ℕ) → (eqb a 0x01 && bitOf b 7) ≡ false → latch c (write w (pos a) (pos b) ∷ d) ≡ latch c d
-  unfolding latch
-  latch-write c w a b q = rw q
 
   -- ---- THERM
 
@@ -66,10 +63,10 @@ or-is false b = refl
 
 -- above the high limit, below the low one; the latch goes from off to on
 abbrev above : ChannelId → ℤ → Taken → Bool
-above c t d = ltZ (pos 8 *ℤ degrees (value (byChannel 0x14 0x18 0x1C c) d)) t
+above c t d = ltZ (pos 8 *ℤ degrees (value (byChannel 0x14 0x18 0x1C c) d)) (measured c (sampled c t) d)
 
 abbrev below : ChannelId → ℤ → Taken → Bool
-below c t d = ltZ t (pos 8 *ℤ degrees (value (byChannel 0x15 0x19 0x1D c) d))
+below c t d = ltZ (measured c (sampled c t) d) (pos 8 *ℤ degrees (value (byChannel 0x15 0x19 0x1D c) d))
 
 abbrev trips : ChannelId → ℤ → Taken → Bool
 trips c t d = not (latch c d) && latch c (sampled c t ∷ d)

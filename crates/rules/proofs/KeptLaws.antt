@@ -12,14 +12,14 @@ use Rattle.part.specs.declared.FanId.the-variants.{One, Two}
 use Rattle.event.specs.Kinds.{isKind}
 use Rattle.event.specs.declared.Event.{Event}
 use Rattle.event.specs.declared.Kind.the-variants as kind
-use Rattle.rules.specs.Registers.{config2, extended, valueAt, existsAt}
+use Rattle.rules.specs.Registers.{config1, config2, extended, valueAt, existsAt}
 use Rattle.rules.specs.Events.{samples, restarts}
-use Rattle.rules.specs.Stored.{Taken, counts, diodeError, pulledBit}
+use Rattle.rules.specs.Stored.{Taken, counts, storedAt, diodeError, pulledBit}
 use Rattle.rules.specs.Temperatures.{temperature, wholeByte, channelOn, highBit, lowBit, thermBit}
 use Rattle.rules.specs.Targets.{flag}
-use Rattle.rules.specs.Duties.{failed, faultBit, atAlarm, alarmBit}
-use Rattle.rules.specs.Shows.{remaindersByte, status, byteAt, value, pending}
-use Rattle.rules.proofs.CalmLaws.{byte-same, temperature-same, override-same, no-restart}
+use Rattle.rules.specs.Duties.{duty, failed, failures, faultBit, atAlarm, alarmBit}
+use Rattle.rules.specs.Shows.{remaindersByte, status, byteAt, value, pending, intAsserted, faultAsserted, shown}
+use Rattle.rules.proofs.CalmLaws.{byte-same, Untouched, untouched, override-same, therm-same}
 use Rattle.rules.proofs.StayLaws.{on-kept, high-kept, low-kept, therm-kept, pulled-kept}
 
 -- what is alike where a test holds, and where it does not
@@ -77,66 +77,74 @@ alarm-step f e d no-restart no-read = rw (no-restart, no-read) (set-or (atAlarm 
 
 -- ---- status bytes
 
--- nor a read, a sample or a pin
-module _
-    (e : Event) (d : Taken) (no-power : isKind kind.Power e ≡ false) (no-write : isKind kind.Write e ≡ false) (no-read : isKind kind.Read e ≡ false)
-    (no-sample : isKind kind.Sample e ≡ false) (no-pin : isKind kind.Pin e ≡ false) where
-  error-kept : (c : ChannelId) → diodeError c (e ∷ d) ≡ diodeError c d
-  unfolding diodeError
-  error-kept c = rw no-power
+-- nothing that a fan goes by is touched, and nothing is read: no alarm bit moves
+pub alarm-kept : (e : Event) (d : Taken) → Untouched e d → isKind kind.Read e ≡ false → (f : FanId) → alarmBit f (e ∷ d) ≡ alarmBit f d
+unfolding atAlarm
+alarm-kept e d u no-read f = alarm-step f e d (u .calm) no-read ∙ rw (at-same, and-not-self (atAlarm f d), or-false (alarmBit f d))
+  where
+    at-same : atAlarm f (e ∷ d) ≡ atAlarm f d
+    at-same = rw (u .byte config2 refl, override-same e d u)
 
-  alarm-at : (f : FanId) → atAlarm f (e ∷ d) ≡ atAlarm f d
-  unfolding atAlarm
-  alarm-at f = rw (byte-same e d no-power no-write config2 refl, override-same e d no-power no-write no-sample no-pin)
+-- an event that leaves every status bit, and the enable bits of the channels
+pub record BitsKept (e : Event) (d : Taken) : Type 0 where
+  pub on : (c : ChannelId) → channelOn c (e ∷ d) ≡ channelOn c d
+  pub high : (c : ChannelId) → highBit c (e ∷ d) ≡ highBit c d
+  pub low : (c : ChannelId) → lowBit c (e ∷ d) ≡ lowBit c d
+  pub therm : (c : ChannelId) → thermBit c (e ∷ d) ≡ thermBit c d
+  pub error : (c : ChannelId) → diodeError c (e ∷ d) ≡ diodeError c d
+  pub pulled : pulledBit (e ∷ d) ≡ pulledBit d
+  pub alarm : (f : FanId) → alarmBit f (e ∷ d) ≡ alarmBit f d
+  pub fault : (f : FanId) → faultBit f (e ∷ d) ≡ faultBit f d
 
-  alarm-kept : (f : FanId) → alarmBit f (e ∷ d) ≡ alarmBit f d
-  alarm-kept f = alarm-step f e d (no-restart e d no-power no-write) no-read ∙ rw (alarm-at f, and-not-self (atAlarm f d), or-false (alarmBit f d))
+-- one that is no power, write, read, sample, pin or failed measurement
+pub bits-kept :
+    (e : Event) (d : Taken) → isKind kind.Power e ≡ false → isKind kind.Write e ≡ false → isKind kind.Read e ≡ false → isKind kind.Sample e ≡ false →
+    isKind kind.Pin e ≡ false → ((f : FanId) → failed f e d ≡ false) → BitsKept e d
+bits-kept e d no-power no-write no-read no-sample no-pin fine =
+    record {
+      on = on-kept e d no-power no-write no-read;
+      high = λ c. high-kept e d no-power no-write no-read c (rw no-sample);
+      low = λ c. low-kept e d no-power no-write no-read c (rw no-sample);
+      therm = λ c. therm-kept e d no-power no-write no-read c (rw no-sample);
+      error = λ c. (unfold diodeError in rw no-power);
+      pulled = pulled-kept e d no-power no-write no-read no-pin;
+      alarm = alarm-kept e d (untouched e d no-power no-write no-sample no-pin) no-read;
+      fault = λ f. (unfold faultBit in rw (fine f, no-power, no-write, no-read));
+    }
 
-  on-is : (c : ChannelId) → channelOn c (e ∷ d) ≡ channelOn c d
-  on-is c = on-kept e d no-power no-write no-read c
+module _ (e : Event) (d : Taken) (k : BitsKept e d) where
+  status-kept : (f : FanId) → status f (e ∷ d) ≡ status f d
+  unfolding status
+  status-kept One =
+      rw (k .alarm One, k .fault One, k .high Remote1, k .low Remote1, k .therm Remote1, k .error Remote1, k .high Local, k .low Local)
+  status-kept Two =
+      rw (k .alarm Two, k .fault Two, k .high Remote2, k .low Remote2, k .therm Remote2, k .error Remote2, k .therm Local, k .pulled)
 
-  high-is : (c : ChannelId) → highBit c (e ∷ d) ≡ highBit c d
-  high-is c = high-kept e d no-power no-write no-read c (rw no-sample)
+  -- what is pending for INT
+  pending-kept : (f : FanId) → pending f (e ∷ d) ≡ pending f d
+  unfolding pending
+  pending-kept One =
+      rw (k .alarm One, k .fault One, k .high Remote1, k .low Remote1, k .therm Remote1, k .error Remote1, k .on Remote1, k .high Local, k .low Local)
+  pending-kept Two =
+      rw (k .alarm Two, k .fault Two, k .high Remote2, k .low Remote2, k .therm Remote2, k .error Remote2, k .on Remote2, k .therm Local, k .pulled)
 
-  low-is : (c : ChannelId) → lowBit c (e ∷ d) ≡ lowBit c d
-  low-is c = low-kept e d no-power no-write no-read c (rw no-sample)
-
-  therm-is : (c : ChannelId) → thermBit c (e ∷ d) ≡ thermBit c d
-  therm-is c = therm-kept e d no-power no-write no-read c (rw no-sample)
-
-  pulled-is : pulledBit (e ∷ d) ≡ pulledBit d
-  pulled-is = pulled-kept e d no-power no-write no-read no-pin
-
-  -- and no failed measurement
-  module _ (fine : (f : FanId) → failed f e d ≡ false) where
-    fault-kept : (f : FanId) → faultBit f (e ∷ d) ≡ faultBit f d
-    unfolding faultBit
-    fault-kept f = rw (fine f, no-power, no-write, no-read)
-
-    status-kept : (f : FanId) → status f (e ∷ d) ≡ status f d
-    unfolding status
-    status-kept One =
-        rw (alarm-kept One, fault-kept One, high-is Remote1, low-is Remote1, therm-is Remote1, error-kept Remote1, high-is Local, low-is Local)
-    status-kept Two =
-        rw (alarm-kept Two, fault-kept Two, high-is Remote2, low-is Remote2, therm-is Remote2, error-kept Remote2, therm-is Local, pulled-is)
-
-    -- what is pending for INT
-    pub pending-kept : (f : FanId) → pending f (e ∷ d) ≡ pending f d
-    unfolding pending
-    pending-kept One =
-        rw (alarm-kept One, fault-kept One, high-is Remote1, low-is Remote1, therm-is Remote1, error-kept Remote1, on-is Remote1, high-is Local, low-is Local)
-    pending-kept Two =
-        rw (alarm-kept Two, fault-kept Two, high-is Remote2, low-is Remote2, therm-is Remote2, error-kept Remote2, on-is Remote2, therm-is Local, pulled-is)
-
-    -- every register but a speed that is measured
-    pub value-kept : (a : ℕ) → counts a e ≡ false → value a (e ∷ d) ≡ value a d
+  module _ (u : Untouched e d) where
+    -- every register whose byte stays
+    pub value-kept : (a : ℕ) → storedAt a (e ∷ d) ≡ storedAt a d → value a (e ∷ d) ≡ value a d
     unfolding value byteAt
-    value-kept a q =
+    value-kept a q = rw (status-kept One, status-kept Two, u .reading Local, u .reading Remote1, u .reading Remote2, q)
+
+    -- and every output, where duties and runs stay
+    pub shown-kept : ((f : FanId) → failures f (e ∷ d) ≡ failures f d) → ((f : FanId) → duty f (e ∷ d) ≡ duty f d) → shown (e ∷ d) ≡ shown d
+    unfolding shown intAsserted faultAsserted
+    shown-kept runs duties =
         rw (
-          status-kept One,
-          status-kept Two,
-          temperature-same e d no-power no-write no-sample Local,
-          temperature-same e d no-power no-write no-sample Remote1,
-          temperature-same e d no-power no-write no-sample Remote2,
-          byte-same e d no-power no-write a q,
+          u .byte config1 refl,
+          pending-kept One,
+          pending-kept Two,
+          therm-same e d u,
+          runs One,
+          runs Two,
+          duties One,
+          duties Two,
         )

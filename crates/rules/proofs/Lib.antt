@@ -9,6 +9,7 @@ pub mod QuietLaws
 pub mod WriteLaws
 pub mod ImageLaws
 pub mod PageRepliesLaws
+pub mod OffsetLaws
 pub mod ReadingLaws
 pub mod StatusLaws
 pub mod CalmLaws
@@ -26,4 +27,6 @@ pub mod OrdinaryLaws
 pub mod PageDutiesLaws
 pub mod PageTachLaws
 pub mod PageStaysLaws
+pub mod OffsetWriteLaws
+pub mod PageOffsetsLaws
 pub mod PageLaws

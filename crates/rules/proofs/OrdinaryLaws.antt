@@ -11,7 +11,8 @@ use Rattle.integer.specs.Bits.{bitOf}
 use Rattle.part.specs.declared.ChannelId.{ChannelId}
 use Rattle.part.specs.declared.FanId.{FanId}
 use Rattle.rules.specs.Stored.{Taken, storedAt, pulledBit}
-use Rattle.rules.specs.Temperatures.{temperature, channelOn, highBit, lowBit, thermBit}
+use Rattle.rules.specs.Temperatures.{temperature, latch, channelOn, highBit, lowBit, thermBit}
+use Rattle.rules.specs.Targets.{flag}
 use Rattle.rules.specs.Duties.{tachOn, judged, failed, failures, faultBit}
 use Rattle.rules.specs.Shows.{value, valuesFrom}
 use Rattle.rules.specs.PageWords.{power, write}
@@ -29,6 +30,18 @@ masked true was = sym (and-true was)
 masked false was = sym (and-false was)
 
 module _ (d : Taken) (w : ℤ) (a b : ℕ) (keeps : ordinary a b) where
+  pub reading-left : (c : ChannelId) → temperature c (write w (pos a) (pos b) ∷ d) ≡ temperature c d
+  unfolding temperature
+  reading-left c = rw keeps
+
+  pub flag-left : (c : ChannelId) → flag c (write w (pos a) (pos b) ∷ d) ≡ flag c d
+  unfolding flag
+  flag-left c = rw keeps
+
+  pub latch-left : (c : ChannelId) → latch c (write w (pos a) (pos b) ∷ d) ≡ latch c d
+  unfolding latch
+  latch-left c = rw keeps
+
   pub high-masked : (c : ChannelId) → highBit c (write w (pos a) (pos b) ∷ d) ≡ (highBit c d && channelOn c (write w (pos a) (pos b) ∷ d))
   unfolding highBit
   high-masked c = rw keeps (masked (channelOn c (write w (pos a) (pos b) ∷ d)) (highBit c d))

@@ -7,7 +7,7 @@ use native.Mathlib.Omega.{arith}
 use lib.Dec.{eqb}
 use lib.IntN.{ℤ, pos}
 use Rattle.integer.proofs.BoolLaws.{by-cases}
-use Rattle.integer.specs.Bits.{bitOf, flagOf}
+use Rattle.integer.specs.Bits.{flagOf}
 use Rattle.part.specs.declared.ChannelId.{ChannelId}
 use Rattle.part.specs.declared.ChannelId.the-variants.{Local, Remote1, Remote2}
 use Rattle.part.specs.declared.FanId.{FanId}
@@ -20,30 +20,32 @@ use Rattle.rules.specs.Fields.{assignment, automatic, speedCode}
 use Rattle.rules.specs.Events.{periods, restarts}
 use Rattle.rules.specs.Stored.{Taken, storedAt, pinLow}
 use Rattle.rules.specs.Replies.{History, taken}
+use Rattle.rules.specs.Offsets.{measured}
 use Rattle.rules.specs.Temperatures.{hysteresis}
 use Rattle.rules.specs.Targets.{tminOf, flag, demand, assignedBy, demandIf, targetOf, target, overridden}
 use Rattle.rules.specs.Duties.{enabled, filtered, rate, nearer, left, spin, atAlarm, alarmBit}
 use Rattle.rules.specs.Shows.{byteAt, value, shown}
 use Rattle.rules.specs.PageWords.{write, sampled, turned, tenth, Accepted, bit, out, dutyOut, outputBit, filterBit, tminFigure, rateFigure, control}
+use Rattle.rules.specs.PageWords.{readingFigure}
 use Rattle.rules.specs.PageDuties.{running, aim, clocksLeft, forced, PageDuties}
 use Rattle.rules.proofs.TakenLaws.{accepted-is}
+use Rattle.rules.proofs.OffsetLaws.{figure-is}
 use Rattle.rules.proofs.FanWordsLaws.{duty-is, left-is, alarm-is, spin-up-is, rate-is, minimum-is, control-is, demanded-is, assigned-is, enabled-by}
 use Rattle.rules.proofs.FanWordsLaws.{filtered-by, turning-by, wanted-by, alarmed-by}
-use Rattle.rules.proofs.CalmLaws.{no-restart, flag-same}
+use Rattle.rules.proofs.CalmLaws.{no-restart, flag-same, untouched}
+use Rattle.rules.proofs.OrdinaryLaws.{flag-left}
 use Rattle.rules.proofs.SoundLaws.{nearer-is, sound}
 use Rattle.rules.proofs.TurnLaws.{fresh-start, left-step, free-step, filter-step, turns-on}
 
 -- ---- 1: run flags
 
-flag-sampled : (c : ChannelId) (t : ℤ) (d : Taken) → flag c (sampled c t ∷ d) ≡ hysteresis (flag c d) (pos (tminOf (storedAt (controlAt c) d))) t
+flag-sampled :
+    (c : ChannelId) (t : ℤ) (d : Taken) →
+    flag c (sampled c t ∷ d) ≡ hysteresis (flag c d) (pos (tminOf (storedAt (controlAt c) d))) (measured c (sampled c t) d)
 unfolding flag storedAt
 flag-sampled Local t d = refl
 flag-sampled Remote1 t d = refl
 flag-sampled Remote2 t d = refl
-
-flag-written : (c : ChannelId) (w : ℤ) (a b : ℕ) (d : Taken) → (eqb a 0x01 && bitOf b 7) ≡ false → flag c (write w (pos a) (pos b) ∷ d) ≡ flag c d
-unfolding flag
-flag-written c w a b d q = rw q
 
 -- ---- 3: targets
 
@@ -89,8 +91,8 @@ module _ (f : FanId) (e : Event) (d : Taken) where
 turned-step :
     (f g : FanId) (d : Taken) → enabled f d ≡ true → overridden d ≡ false → 0 < target f d → left (spin f (turned g ∷ d)) ≡ 0 → filtered f d ≡ true →
     spin f (turned g ∷ d) .duty ≡ cond (periods f (turned g)) (nearer (rate d) (target f d) (spin f d .duty)) (spin f d .duty)
-turned-step f One d = filter-step f (turned One) d refl refl refl refl
-turned-step f Two d = filter-step f (turned Two) d refl refl refl refl
+turned-step f One d = filter-step f (turned One) d (untouched (turned One) d refl refl refl refl)
+turned-step f Two d = filter-step f (turned Two) d (untouched (turned Two) d refl refl refl refl)
 
 own-period : (f : FanId) → periods f (turned f) ≡ true
 own-period One = refl
@@ -106,9 +108,14 @@ module _ (h : History) where
   abbrev d : Taken
   d = taken h
 
-  sampled-is : (c : ChannelId) (t : ℤ) → Accepted (sampled c t) h → running c (sampled c t ∷ h) ≡ hysteresis (running c h) (pos (tminFigure (control c h))) t
+  sampled-is :
+      (c : ChannelId) (t : ℤ) → Accepted (sampled c t) h →
+      running c (sampled c t ∷ h) ≡ hysteresis (running c h) (pos (tminFigure (control c h))) (readingFigure c t h)
   sampled-is c t go =
-      rw (accepted-is (sampled c t) h go) (flag-sampled c t d ∙ ap (λ n. hysteresis (flag c d) (pos (tminOf n)) t) (sym (control-is h d refl c)))
+      rw (accepted-is (sampled c t) h go)
+      (flag-sampled c t d
+      ∙ (ap (λ (n : ℕ). hysteresis (flag c d) (pos (tminOf n)) (measured c (sampled c t) d)) (sym (control-is h d refl c))
+      ∙ ap (λ (v : ℤ). hysteresis (flag c d) (pos (tminFigure (control c h))) v) (figure-is c t h)))
 
   override-is : forced h ≡ (pinLow (taken h) || (bit 0x3F 7 h && eqb (out h .therm) 1))
   unfolding overridden value byteAt existsAt shown
@@ -137,7 +144,7 @@ page-duties h =
       flagOff = λ c t go n y. sampled-is h c t go ∙ rw (n, y);
       flagKept = λ c t go n m. sampled-is h c t go ∙ rw (n, m);
       flagStays = λ c e go no-sample no-power no-write. rw (accepted-is e h go, flag-same e d no-power no-write no-sample c);
-      flagByWrite = λ c w a b go q. rw (accepted-is (write w (pos a) (pos b)) h go) (flag-written c w a b d q);
+      flagByWrite = λ c w a b go q. rw (accepted-is (write w (pos a) (pos b)) h go) (flag-left d w a b q c);
       largest = λ f c auto y. rw (demanded-is h d refl) (at-least f d (automatic-by h auto) c (sym (assigned-is h d refl f c) ∙ y));
       nothing = λ f bound auto all. at-most f d (automatic-by h auto) bound (λ c y. rw (demanded-is h d refl) at (all c (assigned-is h d refl f c ∙ y)));
       manual = λ f off. set-by-hand f d (automatic-by h off) ∙ rw (minimum-is h d refl);
@@ -162,7 +169,8 @@ page-duties h =
           left-is (e ∷ h) (e ∷ d) q f
           ∙ (fresh-start f e d (wanted-by (e ∷ h) (e ∷ d) q f y) (sym (duty-now h f) ∙ z) ∙ sym (spin-up-is (e ∷ h) (e ∷ d) q f));
       ticks = λ f go on. let was = turning-by h d refl f on in
-          left-is (tenth ∷ h) (tenth ∷ d) (accepted-is tenth h go) f ∙ left-step f tenth d refl refl was (turns-on f tenth d refl refl refl refl was);
+          left-is (tenth ∷ h) (tenth ∷ d) (accepted-is tenth h go) f
+          ∙ left-step f tenth d refl refl was (turns-on f tenth d (untouched tenth d refl refl refl refl) was);
       waits = λ f e go no-clock no-tach no-power no-write was on. let q = accepted-is e h go in
           left-is (e ∷ h) (e ∷ d) q f
           ∙ (left-step f e d (no-restart e d no-power no-write) (rw no-tach) (turning-by h d refl f was) (turning-by (e ∷ h) (e ∷ d) q f on)

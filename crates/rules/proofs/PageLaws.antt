@@ -6,6 +6,15 @@ use Rattle.rules.proofs.PageTemperaturesLaws.{page-temperatures}
 use Rattle.rules.proofs.PageDutiesLaws.{page-duties}
 use Rattle.rules.proofs.PageTachLaws.{page-tach}
 use Rattle.rules.proofs.PageStaysLaws.{page-stays}
+use Rattle.rules.proofs.PageOffsetsLaws.{page-offsets}
 
 pub page : (h : History) → Page h
-page h = record { replies = page-replies h; temperatures = page-temperatures h; duties = page-duties h; tachs = page-tach h; stays = page-stays h }
+page h =
+    record {
+      replies = page-replies h;
+      temperatures = page-temperatures h;
+      duties = page-duties h;
+      tachs = page-tach h;
+      stays = page-stays h;
+      offsets = page-offsets h;
+    }

@@ -30,13 +30,14 @@ use Rattle.rules.proofs.TakenLaws.{accepted-is}
 use Rattle.rules.proofs.ReplyLaws.{number-is}
 use Rattle.rules.proofs.ReplyWords.{register-is}
 use Rattle.rules.proofs.QuietLaws.{uncounted}
-use Rattle.rules.proofs.ReadingLaws.{rest-same}
+use Rattle.rules.proofs.OffsetLaws.{figure-is}
+use Rattle.rules.proofs.ReadingLaws.{last-reading, rest-same}
 use Rattle.rules.proofs.StatusLaws.{high-shown, low-shown, therm-shown, pulled-shown}
 use Rattle.rules.proofs.StayLaws.{another, sampled-kind}
 use Rattle.rules.proofs.FanWordsLaws.{duty-is, left-is, tach-is, limit-is, alarm-is, fault-is, alarmed-by}
-use Rattle.rules.proofs.CalmLaws.{no-restart}
-use Rattle.rules.proofs.KeptLaws.{flag-kept, reading-kept, register-kept, alarm-step, value-kept}
-use Rattle.rules.proofs.OrdinaryLaws.{high-masked, low-masked, therm-masked, fault-left, pulled-left, run-left, reset-image}
+use Rattle.rules.proofs.CalmLaws.{no-restart, byte-same, untouched}
+use Rattle.rules.proofs.KeptLaws.{flag-kept, reading-kept, register-kept, alarm-step, BitsKept, bits-kept, value-kept}
+use Rattle.rules.proofs.OrdinaryLaws.{reading-left, high-masked, low-masked, therm-masked, fault-left, pulled-left, run-left, reset-image}
 use Rattle.rules.proofs.TachLaws as tach
 use Rattle.rules.proofs.TachLaws.{judgeable}
 use Rattle.rules.proofs.PageTemperaturesLaws.{enabled-is}
@@ -55,11 +56,16 @@ quiet place = eqb place 2 || (eqb place 7 || eqb place 8)
 idle-kept : (e : Event) (d : Taken) (a : ℕ) → quiet (placeOf (kindOf e)) ≡ true → value a (e ∷ d) ≡ value a d
 unfolding failed
 idle-kept e d a y =
-    value-kept e d (is-not kind.Power refl) (is-not kind.Write refl) (is-not kind.Read refl) (is-not kind.Sample refl) (is-not kind.Pin refl)
-    (λ f. rw (is-not kind.Tach refl)) a (uncounted a e (is-not kind.Tach refl))
+    value-kept e d bits (untouched e d (is-not kind.Power refl) (is-not kind.Write refl) (is-not kind.Sample refl) (is-not kind.Pin refl)) a
+    (byte-same e d (is-not kind.Power refl) (is-not kind.Write refl) a (uncounted a e (is-not kind.Tach refl)))
   where
     is-not : (k : Kind) → quiet (placeOf k) ≡ false → isKind k e ≡ false
     is-not k q = apart quiet (placeOf (kindOf e)) (placeOf k) y q
+
+    bits : BitsKept e d
+    bits =
+        bits-kept e d (is-not kind.Power refl) (is-not kind.Write refl) (is-not kind.Read refl) (is-not kind.Sample refl) (is-not kind.Pin refl)
+        (λ f. rw (is-not kind.Tach refl))
 
 -- a sample shows in 0x06 and in its channel's register alone
 unsampled :
@@ -85,12 +91,6 @@ other-count Two Two n ne = absurd (ne refl)
 -- ---- readings
 
 module _ (d : Taken) (t : ℤ) where
-  last-reading : (c : ChannelId) → temperature c (sampled c t ∷ d) ≡ t
-  unfolding temperature
-  last-reading Local = refl
-  last-reading Remote1 = refl
-  last-reading Remote2 = refl
-
   another-reading : (c other : ChannelId) → (c ≡ other → ⊥) → temperature c (sampled other t ∷ d) ≡ temperature c d
   another-reading c other n =
       reading-kept (sampled other t) d (sampled-kind kind.Power other t) (sampled-kind kind.Write other t) c (another c other t n)
@@ -189,12 +189,12 @@ page-stays h =
       flagByAnother = λ c other t n go.
           rw (accepted-is (sampled other t) h go)
           (flag-kept (sampled other t) d (sampled-kind kind.Power other t) (sampled-kind kind.Write other t) c (another c other t n));
-      lastReading = λ c t go. rw (accepted-is (sampled c t) h go) (last-reading d t c);
+      lastReading = λ c t go. rw (accepted-is (sampled c t) h go) (last-reading d t c ∙ figure-is c t h);
       unreadAfterPower = λ c w x y go. rw (accepted-is (power w x y) h go);
       unreadAfterReset = λ c w b go seven. rw (accepted-is (reset w b) h go, seven);
       readingStays = λ c e go s no-power no-write. rw (accepted-is e h go) (reading-kept e d no-power no-write c (rw s));
       readingByAnother = λ c other t n go. rw (accepted-is (sampled other t) h go) (another-reading d t c other n);
-      readingByWrite = λ c w a b go q. rw (accepted-is (write w (pos a) (pos b)) h go, q);
+      readingByWrite = λ c w a b go q. rw (accepted-is (write w (pos a) (pos b)) h go) (reading-left d w a b q c);
       waitsUnjudged = λ f n go y.
           left-stays h f f n go (tach.failed-is (count f n) d (is-tach f n) f ∙ rw (own f n, judgeable-by h f y));
       waitsAfterGood = λ f n go l. let below = le-ltb _ n (rw (limit-is h d refl) at l) in

@@ -23,12 +23,14 @@ use Rattle.rules.specs.Temperatures.{temperature, channelOn}
 use Rattle.rules.specs.Shows.{status, byteAt, value, pending, intAsserted, shown, answer}
 use Rattle.rules.specs.PageWords.{power, write, read, sampled, pulledLow, letGo, byChannel, byFan}
 use Rattle.rules.specs.PageTemperatures.{PageTemperatures, reset}
-use Rattle.rules.proofs.TakenLaws.{accepted-is}
+use Rattle.rules.proofs.TakenLaws.{took, accepted-is}
 use Rattle.rules.proofs.QuietLaws.{uncounted, shows-alike}
-use Rattle.rules.proofs.ReadingLaws.{eighths, reading}
+use Rattle.rules.proofs.OffsetLaws.{figure-is}
+use Rattle.rules.proofs.ReadingLaws.{eighths, last-reading, reads-back}
 use Rattle.rules.proofs.StatusLaws.{high-shown, low-shown, therm-shown, error-shown, pulled-shown, high-off, low-off, therm-off, clears, keeps}
 use Rattle.rules.proofs.StayLaws.{high-kept, low-kept, therm-kept, pulled-kept, sampled-kind, another}
 use Rattle.rules.proofs.ChannelLaws as channel
+use Rattle.rules.proofs.OrdinaryLaws.{latch-left}
 use Rattle.rules.proofs.ResetLaws.{reset-keeps, reset-latch, reset-flag, reset-run, reset-as-power, outputs-alike, low-byte, low-spin}
 
 module _ (d : Taken) where
@@ -94,22 +96,26 @@ pub page-temperatures : (h : History) → PageTemperatures h
 unfolding answer pinLow
 page-temperatures h =
     record {
-      reading = λ c t go. rw (accepted-is (sampled c t) h go) (reading (taken h) t c go);
+      reading = λ c t go.
+          sym (figure-is c t h)
+          ∙ (sym (last-reading (taken h) t c) ∙ rw (← accepted-is (sampled c t) h go) (reads-back (took (sampled c t ∷ h)) c));
       eighths = λ c. eighths c (taken h);
       held = λ w a go q. rw (accepted-is (read w (pos 0) (pos 0)) h go) (held (taken h) w a q);
-      latchOn = λ c t go y. rw (accepted-is (sampled c t) h go, channel.latch-after (taken h) c t, y);
-      latchOff = λ c t go y z. rw (accepted-is (sampled c t) h go, channel.latch-after (taken h) c t, y, z);
-      latchKept = λ c t go y z. rw (accepted-is (sampled c t) h go, channel.latch-after (taken h) c t, y, z);
+      latchOn = λ c t go y. rw (accepted-is (sampled c t) h go, channel.latch-after (taken h) c t, figure-is c t h, y);
+      latchOff = λ c t go y z. rw (accepted-is (sampled c t) h go, channel.latch-after (taken h) c t, figure-is c t h, y, z);
+      latchKept = λ c t go y z. rw (accepted-is (sampled c t) h go, channel.latch-after (taken h) c t, figure-is c t h, y, z);
       latchStays = λ c e go s p w. rw (accepted-is e h go) (channel.latch-stays (taken h) c e s p w);
       latchByAnother = λ c other t n go. rw (accepted-is (sampled other t) h go) (channel.latch-another (taken h) c other t n);
-      latchByWrite = λ c w a b go q. rw (accepted-is (write w (pos a) (pos b)) h go) (channel.latch-write (taken h) c w a b q);
+      latchByWrite = λ c w a b go q. rw (accepted-is (write w (pos a) (pos b)) h go) (latch-left (taken h) w a b q c);
       therm = channel.therm-on (taken h);
       cool = channel.therm-off (taken h);
       thermRead = λ w go. rw (accepted-is (read w (pos 0) (pos 0)) h go) (channel.therm-read (taken h) w);
       high = λ c t go on.
-          rw (accepted-is (sampled c t) h go, high-shown (sampled c t ∷ taken h) c, high-shown (taken h) c) (channel.high-after (taken h) t c on);
+          rw (accepted-is (sampled c t) h go, high-shown (sampled c t ∷ taken h) c, high-shown (taken h) c, ← figure-is c t h)
+          (channel.high-after (taken h) t c on);
       low = λ c t go on.
-          rw (accepted-is (sampled c t) h go, low-shown (sampled c t ∷ taken h) c, low-shown (taken h) c) (channel.low-after (taken h) t c on);
+          rw (accepted-is (sampled c t) h go, low-shown (sampled c t ∷ taken h) c, low-shown (taken h) c, ← figure-is c t h)
+          (channel.low-after (taken h) t c on);
       thermBit = λ c t go on.
           rw (accepted-is (sampled c t) h go, therm-shown (sampled c t ∷ taken h) c, therm-shown (taken h) c) (channel.therm-after (taken h) t c on);
       disabled = λ c q.

@@ -2,23 +2,28 @@
 use Prim.Native.Nat.{ℕ, suc, _+_, _-_, _*_, _/_, _%_, _<_}
 use mathlib.Core.Path.{_≡_, refl, sym, ap, _∙_}
 use mathlib.Core.Bool.{true, false}
-use mathlib.Core.List.{_∷_}
+use mathlib.Core.List.{[], _∷_}
 use native.Mathlib.Omega.{arith}
 use lib.Dec.{leb}
 use lib.IntN.{ℤ, pos, negsuc, _+ℤ_, _*ℤ_}
+use lib.Signed.{leZ}
 use borrow.Author.Tests.{eqb-false, lt-ltb, le-ltb, leb-true}
-use Rattle.integer.proofs.BoolLaws.{both}
+use Rattle.integer.proofs.BoolLaws.{by-cases, either, both}
 use Rattle.part.specs.declared.ChannelId.{ChannelId}
 use Rattle.part.specs.declared.ChannelId.the-variants.{Local, Remote1, Remote2}
+use Rattle.event.specs.Kinds.{isKind}
+use Rattle.event.specs.declared.Event.{Event}
+use Rattle.event.specs.declared.Kind.the-variants as kind
 use Rattle.rules.specs.Registers.{existsAt}
-use Rattle.rules.specs.Events.{fromTo, lies}
+use Rattle.rules.specs.Events.{val, fromTo, lies, samples, restarts}
 use Rattle.rules.specs.Stored.{Taken}
-use Rattle.rules.specs.Replies.{isOdd, accepts, replyTo}
+use Rattle.rules.specs.Replies.{isOdd, oddLocal}
+use Rattle.rules.specs.Offsets.{highest, measured}
 use Rattle.rules.specs.Temperatures.{temperature, wholeByte, remainder, degrees}
 use Rattle.rules.specs.Shows.{remaindersByte, byteAt, value}
 use Rattle.rules.specs.PageWords.{sampled, byChannel}
-use Rattle.rules.proofs.EventLaws.{val-lies}
-use Rattle.rules.proofs.TakenLaws.{went}
+use Rattle.rules.proofs.TakenLaws.{Took, none, more, went}
+use Rattle.rules.proofs.OffsetLaws.{measured-lies, measured-below, measured-even}
 
 -- ---- the whole part and the remainder
 
@@ -38,6 +43,11 @@ small (negsuc n) = omega arith
 even : (t : ℤ) → isOdd t ≡ false → 2 * (remainder t / 2) ≡ remainder t
 even (pos n) y = omega (arith, eqb-false (n % 2) 1 y)
 even (negsuc n) y = omega (arith, eqb-false (n % 2) 0 y)
+
+zero-below : (c : ChannelId) → leZ (pos 0) (highest c) ≡ true
+zero-below Local = refl
+zero-below Remote1 = refl
+zero-below Remote2 = refl
 
 -- ---- back from 0x06
 
@@ -67,28 +77,58 @@ rest-is Remote2 d = omega (arith, small (temperature Remote1 d), small (temperat
 pub rest-same : (c : ChannelId) (d g : Taken) → temperature c d ≡ temperature c g → rest c (value 0x06 d) ≡ rest c (value 0x06 g)
 rest-same c d g q = rest-is c d ∙ rw q (sym (rest-is c g))
 
-module _ (d : Taken) (t : ℤ) where
-  -- the registers after a sample of the channel
-  rest-back : (c : ChannelId) → accepts (replyTo (sampled c t) d) ≡ true → rest c (value 0x06 (sampled c t ∷ d)) ≡ remainder t
-  unfolding value byteAt existsAt temperature
-  rest-back Local go =
-      let y = even t (went (sampled Local t) d go .even) in
-      omega (arith, small t, small (temperature Remote1 d), small (temperature Remote2 d))
-  rest-back Remote1 go = omega (arith, small t)
-  rest-back Remote2 go = omega (arith, small t, small (temperature Remote1 d))
+-- a sample is the last reading of its channel
+pub last-reading : (d : Taken) (t : ℤ) (c : ChannelId) → temperature c (sampled c t ∷ d) ≡ measured c (sampled c t) d
+unfolding temperature
+last-reading d t Local = refl
+last-reading d t Remote1 = refl
+last-reading d t Remote2 = refl
 
-  whole-back : (c : ChannelId) → value (byChannel 0x0A 0x0B 0x0C c) (sampled c t ∷ d) ≡ wholeByte t
-  unfolding value byteAt existsAt temperature
+-- ---- after every list of accepted events
+
+-- a reading is in the range that two bytes hold, and not above the highest of its channel
+pub within : (c : ChannelId) (d : Taken) → lies (fromTo (negsuc 1023) (pos 1023)) (temperature c d) ≡ true
+unfolding temperature
+within c [] = refl
+within c (e ∷ d) = either P (restarts e) refl (either P (samples c e) (measured-lies c _ (val e)) (within c d))
+  where
+    P : ℤ → Type 0
+    P v = lies (fromTo (negsuc 1023) (pos 1023)) v ≡ true
+
+pub not-above : (c : ChannelId) (d : Taken) → leZ (temperature c d) (highest c) ≡ true
+unfolding temperature
+not-above c [] = zero-below c
+not-above c (e ∷ d) = either P (restarts e) (zero-below c) (either P (samples c e) (measured-below c _ (val e)) (not-above c d))
+  where
+    P : ℤ → Type 0
+    P v = leZ v (highest c) ≡ true
+
+-- the local one is even
+even-after : (e : Event) (d : Taken) → oddLocal e ≡ false → isOdd (temperature Local d) ≡ false → isOdd (temperature Local (e ∷ d)) ≡ false
+unfolding temperature
+even-after e d fine was =
+    by-cases (restarts e)
+    (λ s. rw s)
+    (λ s. by-cases (samples Local e)
+    (λ y. let p = both (isKind kind.Sample e) _ y in rw (s, y) (measured-even _ (val e) (rw (p .0, p .1) at fine)))
+    (λ y. rw (s, y) was))
+
+pub local-even : {d : Taken} → Took d → isOdd (temperature Local d) ≡ false
+local-even none = (unfold temperature in refl)
+local-even (more {e = e} {d = d} go t) = even-after e d (went e d go .even) (local-even t)
+
+-- so a reading comes back from its registers
+module _ {d : Taken} (t : Took d) where
+  rest-back : (c : ChannelId) → rest c (value 0x06 d) ≡ remainder (temperature c d)
+  rest-back Local = rest-is Local d ∙ even (temperature Local d) (local-even t)
+  rest-back Remote1 = rest-is Remote1 d
+  rest-back Remote2 = rest-is Remote2 d
+
+  whole-back : (c : ChannelId) → value (byChannel 0x0A 0x0B 0x0C c) d ≡ wholeByte (temperature c d)
+  unfolding value byteAt existsAt
   whole-back Local = refl
   whole-back Remote1 = refl
   whole-back Remote2 = refl
 
-  ranged : (c : ChannelId) → accepts (replyTo (sampled c t) d) ≡ true → lies (fromTo (negsuc 1023) (pos 1023)) t ≡ true
-  ranged Local go = val-lies (sampled Local t) (went (sampled Local t) d go .range) 4 refl
-  ranged Remote1 go = val-lies (sampled Remote1 t) (went (sampled Remote1 t) d go .range) 4 refl
-  ranged Remote2 go = val-lies (sampled Remote2 t) (went (sampled Remote2 t) d go .range) 4 refl
-
-  pub reading :
-      (c : ChannelId) → accepts (replyTo (sampled c t) d) ≡ true →
-      t ≡ (pos 8 *ℤ degrees (value (byChannel 0x0A 0x0B 0x0C c) (sampled c t ∷ d))) +ℤ pos (rest c (value 0x06 (sampled c t ∷ d)))
-  reading c go = rw (whole-back c, rest-back c go) (split t (ranged c go))
+  pub reads-back : (c : ChannelId) → temperature c d ≡ (pos 8 *ℤ degrees (value (byChannel 0x0A 0x0B 0x0C c) d)) +ℤ pos (rest c (value 0x06 d))
+  reads-back c = rw (whole-back c, rest-back c) (split (temperature c d) (within c d))

@@ -1,6 +1,6 @@
 -- What one accepted event does to the duty and the spin-up of a fan. Assumes nothing.
 use Prim.Native.Nat.{_-_, _<_}
-use mathlib.Core.Path.{_≡_, refl, sym, ap, _∙_}
+use mathlib.Core.Path.{_≡_, refl, sym, _∙_}
 use mathlib.Core.Bool.{true, false, cond, or-true}
 use mathlib.Core.List.{_∷_}
 use native.Mathlib.Omega.{arith}
@@ -16,7 +16,7 @@ use Rattle.rules.specs.Events.{periods, restarts}
 use Rattle.rules.specs.Stored.{Taken}
 use Rattle.rules.specs.Targets.{target, overridden}
 use Rattle.rules.specs.Duties.{enabled, filtered, rate, nearer, spinUpClocks, Spin, left, prior, failedIn, spinUpStarts, spinAfter, spin}
-use Rattle.rules.proofs.CalmLaws.{no-restart, byte-same, target-same, override-same}
+use Rattle.rules.proofs.CalmLaws.{Untouched, target-same, override-same}
 use Rattle.rules.proofs.SoundLaws.{wanted, aimed, leftThen, freely, left-then, began, turns, settled, sound, is-wanted}
 
 -- ---- a spin-up starts
@@ -60,67 +60,63 @@ module _ (f : FanId) (e : Event) (d : Taken) (no-restart : restarts e ≡ false)
       spin f (e ∷ d) .duty ≡ freely f e d (spin f d)
   free-step on free aim z = rw stepped (settled f e d (spin f d) on free aim (rw stepped at z))
 
--- ---- no sample and no pin either: the fan turns on as it did
+-- ---- an event that touches nothing that the fan goes by: it turns on as it did
 
-module _ (f : FanId) (e : Event) (d : Taken) (no-power : isKind kind.Power e ≡ false) (no-write : isKind kind.Write e ≡ false) where
-  abbrev calm : restarts e ≡ false
-  calm = no-restart e d no-power no-write
+module _ (f : FanId) (e : Event) (d : Taken) (u : Untouched e d) where
+  enabled-same : enabled f (e ∷ d) ≡ enabled f d
+  enabled-same = rw (u .byte config2 refl)
 
-  module _ (no-sample : isKind kind.Sample e ≡ false) (no-pin : isKind kind.Pin e ≡ false) where
-    enabled-same : enabled f (e ∷ d) ≡ enabled f d
-    enabled-same = rw (byte-same e d no-power no-write config2 refl)
+  aim-same : target f (e ∷ d) ≡ target f d
+  aim-same = target-same e d u f
 
-    aim-same : target f (e ∷ d) ≡ target f d
-    aim-same = target-same e d no-power no-write no-sample f
+  free-same : overridden (e ∷ d) ≡ overridden d
+  free-same = override-same e d u
 
-    free-same : overridden (e ∷ d) ≡ overridden d
-    free-same = override-same e d no-power no-write no-sample no-pin
+  pub wanted-same : wanted f (e ∷ d) ≡ wanted f d
+  wanted-same = rw (enabled-same, aim-same, free-same)
 
-    pub wanted-same : wanted f (e ∷ d) ≡ wanted f d
-    wanted-same = rw (enabled-same, aim-same, free-same)
+  pub turns-on : 0 < spin f d .duty → 0 < spin f (e ∷ d) .duty
+  turns-on was = sound f (e ∷ d) .turning (wanted-same ∙ is-wanted f d was)
 
-    pub turns-on : 0 < spin f d .duty → 0 < spin f (e ∷ d) .duty
-    turns-on was = sound f (e ∷ d) .turning (wanted-same ∙ is-wanted f d was)
+  -- filtered, with nothing left of the spin-up: by periods of the fan alone
+  pub filter-step :
+      enabled f d ≡ true → overridden d ≡ false → 0 < target f d → left (spin f (e ∷ d)) ≡ 0 → filtered f d ≡ true →
+      spin f (e ∷ d) .duty ≡ cond (periods f e) (nearer (rate d) (target f d) (spin f d .duty)) (spin f d .duty)
+  filter-step on free aim z p =
+      free-step f e d (u .calm) (enabled-same ∙ on) (free-same ∙ free) (omega (arith, aim-same)) z ∙ rw (u .byte filter refl, p, aim-same)
 
-    -- filtered, with nothing left of the spin-up: by periods of the fan alone
-    pub filter-step :
-        enabled f d ≡ true → overridden d ≡ false → 0 < target f d → left (spin f (e ∷ d)) ≡ 0 → filtered f d ≡ true →
-        spin f (e ∷ d) .duty ≡ cond (periods f e) (nearer (rate d) (target f d) (spin f d .duty)) (spin f d .duty)
-    filter-step on free aim z p =
-        free-step f e d calm (enabled-same ∙ on) (free-same ∙ free) (omega (arith, aim-same)) z ∙ rw (byte-same e d no-power no-write filter refl, p, aim-same)
+  -- neither a clock, a failure nor a period of the fan: the duty stays
+  module _ (no-clock : isKind kind.Clock e ≡ false) (fine : failedIn f e d (spin f d) ≡ false) (no-period : periods f e ≡ false) where
+    left-same : 0 < spin f d .duty → left (spin f (e ∷ d)) ≡ left (spin f d)
+    left-same was = left-step f e d (u .calm) fine was (turns-on was) ∙ rw no-clock (omega arith)
 
-    -- neither a clock, a failure nor a period of the fan: the duty stays
-    module _ (no-clock : isKind kind.Clock e ≡ false) (fine : failedIn f e d (spin f d) ≡ false) (no-period : periods f e ≡ false) where
-      left-same : 0 < spin f d .duty → left (spin f (e ∷ d)) ≡ left (spin f d)
-      left-same was = left-step f e d calm fine was (turns-on was) ∙ rw no-clock (omega arith)
+    module _ (on : enabled f d ≡ true) (free : overridden d ≡ false) (aim : 0 < target f d) (kept : left (spin f (e ∷ d)) ≡ left (spin f d)) where
+      spins-on : 0 < left (spin f d) → spin f (e ∷ d) .duty ≡ spin f d .duty
+      spins-on l =
+          sound f (e ∷ d) .spinning (enabled-same ∙ on) (free-same ∙ free) (omega (arith, aim-same)) (omega arith)
+          ∙ sym (sound f d .spinning on free aim l)
 
-      module _ (on : enabled f d ≡ true) (free : overridden d ≡ false) (aim : 0 < target f d) (kept : left (spin f (e ∷ d)) ≡ left (spin f d)) where
-        spins-on : 0 < left (spin f d) → spin f (e ∷ d) .duty ≡ spin f d .duty
-        spins-on l =
-            sound f (e ∷ d) .spinning (enabled-same ∙ on) (free-same ∙ free) (omega (arith, aim-same)) (omega arith)
-            ∙ sym (sound f d .spinning on free aim l)
+      freely-on : left (spin f d) ≡ 0 → spin f (e ∷ d) .duty ≡ spin f d .duty
+      freely-on z =
+          free-step f e d (u .calm) (enabled-same ∙ on) (free-same ∙ free) (omega (arith, aim-same)) (kept ∙ z)
+          ∙ rw (u .byte filter refl, no-period, aim-same)
+          (by-cases (filtered f d) (λ p. rw p) (λ p. rw p (sym (sound f d .at-target on free aim z p))))
 
-        freely-on : left (spin f d) ≡ 0 → spin f (e ∷ d) .duty ≡ spin f d .duty
-        freely-on z =
-            free-step f e d calm (enabled-same ∙ on) (free-same ∙ free) (omega (arith, aim-same)) (kept ∙ z)
-            ∙ rw (byte-same e d no-power no-write filter refl, no-period, aim-same)
-            (by-cases (filtered f d) (λ p. rw p) (λ p. rw p (sym (sound f d .at-target on free aim z p))))
+    turned-on : wanted f d ≡ true → spin f (e ∷ d) .duty ≡ spin f d .duty
+    turned-on y =
+        let on = both (enabled f d) _ y .0 in
+        let kept = left-same (sound f d .turning y) in
+        by-cases (overridden d)
+        (λ o. sound f (e ∷ d) .at-full (enabled-same ∙ on) (free-same ∙ o) ∙ sym (sound f d .at-full on o))
+        (λ o. by-cases (eqb (left (spin f d)) 0)
+        (λ z. freely-on on o (aimed f d y o) kept (eqb-true _ _ z))
+        (λ z. spins-on on o (aimed f d y o) kept (omega (arith, eqb-false (left (spin f d)) 0 z))))
 
-      turned-on : wanted f d ≡ true → spin f (e ∷ d) .duty ≡ spin f d .duty
-      turned-on y =
-          let on = both (enabled f d) _ y .0 in
-          let kept = left-same (sound f d .turning y) in
-          by-cases (overridden d)
-          (λ o. sound f (e ∷ d) .at-full (enabled-same ∙ on) (free-same ∙ o) ∙ sym (sound f d .at-full on o))
-          (λ o. by-cases (eqb (left (spin f d)) 0)
-          (λ z. freely-on on o (aimed f d y o) kept (eqb-true _ _ z))
-          (λ z. spins-on on o (aimed f d y o) kept (omega (arith, eqb-false (left (spin f d)) 0 z))))
+    pub duty-same : spin f (e ∷ d) .duty ≡ spin f d .duty
+    duty-same = by-cases (wanted f d) turned-on (λ n. sound f (e ∷ d) .at-rest (wanted-same ∙ n) ∙ sym (sound f d .at-rest n))
 
-      pub duty-same : spin f (e ∷ d) .duty ≡ spin f d .duty
-      duty-same = by-cases (wanted f d) turned-on (λ n. sound f (e ∷ d) .at-rest (wanted-same ∙ n) ∙ sym (sound f d .at-rest n))
-
-      pub left-kept : left (spin f (e ∷ d)) ≡ left (spin f d)
-      left-kept =
-          by-cases (eqb (spin f d .duty) 0)
-          (λ z. let rest = eqb-true (spin f d .duty) 0 z in sound f (e ∷ d) .idle (duty-same ∙ rest) ∙ sym (sound f d .idle rest))
-          (λ z. left-same (omega (arith, eqb-false (spin f d .duty) 0 z)))
+    pub left-kept : left (spin f (e ∷ d)) ≡ left (spin f d)
+    left-kept =
+        by-cases (eqb (spin f d .duty) 0)
+        (λ z. let rest = eqb-true (spin f d .duty) 0 z in sound f (e ∷ d) .idle (duty-same ∙ rest) ∙ sym (sound f d .idle rest))
+        (λ z. left-same (omega (arith, eqb-false (spin f d .duty) 0 z)))

@@ -1,21 +1,19 @@
 -- A count that is not judged changes its register only: status bits, registers and outputs stay. Assumes nothing.
 use Prim.Native.Nat.{ℕ}
-use mathlib.Core.Path.{_≡_, refl, sym, _∙_}
+use mathlib.Core.Path.{_≡_, sym, _∙_}
 use mathlib.Core.Bool.{true, false, cond}
 use mathlib.Core.List.{_∷_}
 use lib.Dec.{eqb}
 use Rattle.part.specs.declared.FanId.{FanId}
-use Rattle.part.specs.declared.FanId.the-variants.{One, Two}
 use Rattle.event.specs.Kinds.{placeOf, isKind}
 use Rattle.event.specs.declared.Event.{Event}
 use Rattle.event.specs.declared.Kind.{Kind}
 use Rattle.event.specs.declared.Kind.the-variants as kind
-use Rattle.rules.specs.Registers.{config1}
 use Rattle.rules.specs.Stored.{Taken, counts}
 use Rattle.rules.specs.Duties.{tachOn, duty, judged, failed, failures}
-use Rattle.rules.specs.Shows.{value, pending, intAsserted, faultAsserted, shown}
-use Rattle.rules.proofs.CalmLaws.{byte-same, therm-same}
-use Rattle.rules.proofs.KeptLaws.{pending-kept, value-kept}
+use Rattle.rules.specs.Shows.{value, shown}
+use Rattle.rules.proofs.CalmLaws.{byte-same, Untouched, untouched}
+use Rattle.rules.proofs.KeptLaws.{BitsKept, bits-kept, value-kept, shown-kept}
 use Rattle.rules.proofs.TachLaws.{kind-is, judged-is, failed-is, run-is, run-kept, duty-kept}
 
 -- a count that neither fan is judged by
@@ -36,22 +34,14 @@ module _ (e : Event) (d : Taken) (tach : isKind kind.Tach e ≡ true) (calm : (f
   run-same : (f : FanId) → failures f (e ∷ d) ≡ failures f d
   run-same f = run-kept e d tach f (fine f) (calm f)
 
-  pending-same : (f : FanId) → pending f (e ∷ d) ≡ pending f d
-  pending-same = pending-kept e d (is kind.Power) (is kind.Write) (is kind.Read) (is kind.Sample) (is kind.Pin) fine
+  abbrev settled : Untouched e d
+  settled = untouched e d (is kind.Power) (is kind.Write) (is kind.Sample) (is kind.Pin)
+
+  abbrev bits : BitsKept e d
+  bits = bits-kept e d (is kind.Power) (is kind.Write) (is kind.Read) (is kind.Sample) (is kind.Pin) fine
 
   pub value-same : (a : ℕ) → counts a e ≡ false → value a (e ∷ d) ≡ value a d
-  value-same = value-kept e d (is kind.Power) (is kind.Write) (is kind.Read) (is kind.Sample) (is kind.Pin) fine
+  value-same a q = value-kept e d bits settled a (byte-same e d (is kind.Power) (is kind.Write) a q)
 
   pub shown-same : shown (e ∷ d) ≡ shown d
-  unfolding shown intAsserted faultAsserted
-  shown-same =
-      rw (
-        byte-same e d (is kind.Power) (is kind.Write) config1 refl,
-        pending-same One,
-        pending-same Two,
-        therm-same e d (is kind.Power) (is kind.Write) (is kind.Sample),
-        run-same One,
-        run-same Two,
-        duty-same One,
-        duty-same Two,
-      )
+  shown-same = shown-kept e d bits settled run-same duty-same

@@ -48,7 +48,7 @@ module _ (d : Taken) (w : ℤ) (a b : ℕ) (keeps : (eqb a 0x01 && bitOf b 7) �
   unfolding storedAt
   stored-there = rw (keeps, eq-eqb a a refl)
 
-  stored-elsewhere : (other : ℕ) → eqb other a ≡ false → storedAt other (write w (pos a) (pos b) ∷ d) ≡ storedAt other d
+  pub stored-elsewhere : (other : ℕ) → eqb other a ≡ false → storedAt other (write w (pos a) (pos b) ∷ d) ≡ storedAt other d
   unfolding storedAt
   stored-elsewhere other q = rw (keeps, ne-eqb a other (λ z. eqb-false other a q (sym z)), uncounted other (write w (pos a) (pos b)) refl)
 

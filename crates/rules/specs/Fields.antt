@@ -37,6 +37,13 @@ channelEnabled Local byte = bitOf byte 4
 channelEnabled Remote1 byte = bitOf byte 5
 channelEnabled Remote2 byte = bitOf byte 6
 
+-- 0x0D to 0x0F (Tables 31 to 33): the degrees of an offset 3:0; its sign 7, which subtracts them
+abbrev pub offsetDegrees : ℕ → ℕ
+offsetDegrees byte = byte % 16
+
+abbrev pub offsetSubtracts : ℕ → Bool
+offsetSubtracts byte = bitOf byte 7
+
 -- 0x20, 0x21 (Table 9): the spin-up code 2:0
 abbrev pub spinUpCode : ℕ → ℕ
 spinUpCode byte = byte % 8

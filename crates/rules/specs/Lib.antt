@@ -3,6 +3,7 @@ pub mod Fields
 pub mod Events
 pub mod Stored
 pub mod Replies
+pub mod Offsets
 pub mod Temperatures
 pub mod Targets
 pub mod Duties
@@ -12,4 +13,5 @@ pub mod PageReplies
 pub mod PageTemperatures
 pub mod PageDuties
 pub mod PageStays
+pub mod PageOffsets
 pub mod Page

@@ -1,9 +1,11 @@
--- The page: every sentence of document 01 that says what the chip does, a second time, over events with their numbers and over what a user sees.
+-- The page: every sentence of document 01, and of T-01 of document 02, that says what the chip does, a second time,
+-- over events with their numbers and over what a user sees.
 use Rattle.rules.specs.Replies.{History}
 use Rattle.rules.specs.PageReplies.{PageReplies}
 use Rattle.rules.specs.PageTemperatures.{PageTemperatures}
 use Rattle.rules.specs.PageDuties.{PageDuties, PageTach}
 use Rattle.rules.specs.PageStays.{PageStays}
+use Rattle.rules.specs.PageOffsets.{PageOffsets}
 
 pub record Page (h : History) : Type 0 where
   pub replies : PageReplies h
@@ -11,3 +13,4 @@ pub record Page (h : History) : Type 0 where
   pub duties : PageDuties h
   pub tachs : PageTach h
   pub stays : PageStays h
+  pub offsets : PageOffsets h

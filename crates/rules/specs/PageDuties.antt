@@ -20,7 +20,7 @@ use Rattle.rules.specs.Targets.{flag, target, overridden}
 use Rattle.rules.specs.Duties.{left, spin, failures}
 use Rattle.rules.specs.PageWords.{write, read, sampled, counted, turned, tenth, Accepted, register, bit, out, dutyOut, byFan, outputBit, tachBit}
 use Rattle.rules.specs.PageWords.{filterBit, alarmStatus, faultStatus, tminFigure, rangeFigure, control, spinUpFigure, rateFigure, minimumCode}
-use Rattle.rules.specs.PageWords.{isAssigned}
+use Rattle.rules.specs.PageWords.{readingFigure, isAssigned}
 
 -- the run flag of a channel; the target and the clocks left of the spin-up of a fan; override; the run of failures
 abbrev pub running : ChannelId → History → Bool
@@ -63,15 +63,16 @@ abbrev pub judgedAfter : FanId → History → Bool
 judgedAfter f h = tachBit f h && (ltb 0 (dutyOut f h) && eqb (clocksLeft f h) 0)
 
 pub record PageDuties (h : History) : Type 0 where
-  -- 1: "A sample turns a channel's run flag on if t > 8 Tmin, off if t < 8(Tmin - 5), else keeps it."
+  -- 1, t being the reading of the sample (T-01): "A sample turns a channel's run flag on if t > 8 Tmin, off if t < 8(Tmin - 5), else keeps it."
   pub flagOn :
-      (c : ChannelId) (t : ℤ) → Accepted (sampled c t) h → ltZ (pos 8 *ℤ pos (tminFigure (control c h))) t ≡ true → running c (sampled c t ∷ h) ≡ true
+      (c : ChannelId) (t : ℤ) → Accepted (sampled c t) h → ltZ (pos 8 *ℤ pos (tminFigure (control c h))) (readingFigure c t h) ≡ true →
+      running c (sampled c t ∷ h) ≡ true
   pub flagOff :
-      (c : ChannelId) (t : ℤ) → Accepted (sampled c t) h → ltZ (pos 8 *ℤ pos (tminFigure (control c h))) t ≡ false →
-      ltZ t (pos 8 *ℤ (pos (tminFigure (control c h)) -ℤ pos 5)) ≡ true → running c (sampled c t ∷ h) ≡ false
+      (c : ChannelId) (t : ℤ) → Accepted (sampled c t) h → ltZ (pos 8 *ℤ pos (tminFigure (control c h))) (readingFigure c t h) ≡ false →
+      ltZ (readingFigure c t h) (pos 8 *ℤ (pos (tminFigure (control c h)) -ℤ pos 5)) ≡ true → running c (sampled c t ∷ h) ≡ false
   pub flagKept :
-      (c : ChannelId) (t : ℤ) → Accepted (sampled c t) h → ltZ (pos 8 *ℤ pos (tminFigure (control c h))) t ≡ false →
-      ltZ t (pos 8 *ℤ (pos (tminFigure (control c h)) -ℤ pos 5)) ≡ false → running c (sampled c t ∷ h) ≡ running c h
+      (c : ChannelId) (t : ℤ) → Accepted (sampled c t) h → ltZ (pos 8 *ℤ pos (tminFigure (control c h))) (readingFigure c t h) ≡ false →
+      ltZ (readingFigure c t h) (pos 8 *ℤ (pos (tminFigure (control c h)) -ℤ pos 5)) ≡ false → running c (sampled c t ∷ h) ≡ running c h
   -- 1: "A register write does not touch it"; nor does any other event but power and reset
   pub flagStays :
       (c : ChannelId) (e : Event) → Accepted e h → isKind kind.Sample e ≡ false → isKind kind.Power e ≡ false → isKind kind.Write e ≡ false →

@@ -15,7 +15,7 @@ use Rattle.event.specs.declared.Kind.the-variants as kind
 use Rattle.rules.specs.Stored.{ownAddress}
 use Rattle.rules.specs.Replies.{History, taken, accepted}
 use Rattle.rules.specs.PageWords.{power, write, pin, sampled, counted, Accepted, register, bit, replyNumber, dutyOut, byChannel, byFan, channelBit}
-use Rattle.rules.specs.PageWords.{highStatus, lowStatus, thermStatus, alarmStatus, faultStatus, outputBit, tachBit}
+use Rattle.rules.specs.PageWords.{highStatus, lowStatus, thermStatus, alarmStatus, faultStatus, outputBit, tachBit, readingFigure}
 use Rattle.rules.specs.PageReplies.{oneOf, registers, powerOn, powerImage}
 use Rattle.rules.specs.PageTemperatures.{eighthsIn, reset}
 use Rattle.rules.specs.PageDuties.{running, eighthsRead, clocksLeft, forced, failureRun, judgedAfter}
@@ -65,8 +65,8 @@ pub record PageStays (h : History) : Type 0 where
   -- duty 1: a sample of another channel
   pub flagByAnother :
       (c other : ChannelId) (t : ℤ) → (c ≡ other → ⊥) → Accepted (sampled other t) h → running c (sampled other t ∷ h) ≡ running c h
-  -- duty 2: a channel's reading is its last sample, 0 after power and reset; nothing else moves it
-  pub lastReading : (c : ChannelId) (t : ℤ) → Accepted (sampled c t) h → eighthsRead c (sampled c t ∷ h) ≡ t
+  -- duty 2: a channel's reading is that of its last sample, 0 after power and reset; nothing else moves it
+  pub lastReading : (c : ChannelId) (t : ℤ) → Accepted (sampled c t) h → eighthsRead c (sampled c t ∷ h) ≡ readingFigure c t h
   pub unreadAfterPower : (c : ChannelId) (w x y : ℤ) → Accepted (power w x y) h → eighthsRead c (power w x y ∷ h) ≡ pos 0
   pub unreadAfterReset : (c : ChannelId) (w : ℤ) (b : ℕ) → Accepted (reset w b) h → bitOf b 7 ≡ true → eighthsRead c (reset w b ∷ h) ≡ pos 0
   pub readingStays :

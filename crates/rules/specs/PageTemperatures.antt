@@ -20,7 +20,7 @@ use Rattle.rules.specs.Temperatures.{degrees, latch}
 use Rattle.rules.specs.Targets.{flag}
 use Rattle.rules.specs.Duties.{left, spin, failures}
 use Rattle.rules.specs.PageWords.{power, write, read, sampled, pulledLow, letGo, Accepted, register, bit, out, dataOut, byChannel, byFan, highDegrees}
-use Rattle.rules.specs.PageWords.{lowDegrees, thermDegrees, channelBit, highStatus, lowStatus, thermStatus, alarmStatus, faultStatus}
+use Rattle.rules.specs.PageWords.{lowDegrees, thermDegrees, channelBit, highStatus, lowStatus, thermStatus, readingFigure}
 
 -- the remainder of a channel in 0x06: remote 1 in bits 2:0, remote 2 in 5:3, local in quarters in 7:6
 abbrev pub eighthsIn : ChannelId → History → ℕ
@@ -40,11 +40,12 @@ pulled h = pinLow (taken h)
 abbrev pub reset : (who : ℤ) (byte : ℕ) → Event
 reset who byte = write who (pos 0x01) (pos byte)
 
+-- the page's t is the reading of a sample of t (T-01)
 pub record PageTemperatures (h : History) : Type 0 where
   -- 1: "stored as its whole part rounded down, in two's complement, with the remainder 0 to 7 in register 0x06"
   pub reading :
       (c : ChannelId) (t : ℤ) → Accepted (sampled c t) h →
-      t ≡ (pos 8 *ℤ degreesIn c (sampled c t ∷ h)) +ℤ pos (eighthsIn c (sampled c t ∷ h))
+      readingFigure c t h ≡ (pos 8 *ℤ degreesIn c (sampled c t ∷ h)) +ℤ pos (eighthsIn c (sampled c t ∷ h))
   pub eighths : (c : ChannelId) → eighthsIn c h < 8
   -- 1: "Reading one byte holds back no other"
   pub held :
@@ -52,13 +53,14 @@ pub record PageTemperatures (h : History) : Type 0 where
       register a (read w (pos 0) (pos 0) ∷ h) ≡ register a h
   -- 2: "A sample turns it on if t > 8L, off if t < 8(L - 5), else keeps it."
   pub latchOn :
-      (c : ChannelId) (t : ℤ) → Accepted (sampled c t) h → ltZ (pos 8 *ℤ thermDegrees c h) t ≡ true → latched c (sampled c t ∷ h) ≡ true
+      (c : ChannelId) (t : ℤ) → Accepted (sampled c t) h → ltZ (pos 8 *ℤ thermDegrees c h) (readingFigure c t h) ≡ true →
+      latched c (sampled c t ∷ h) ≡ true
   pub latchOff :
-      (c : ChannelId) (t : ℤ) → Accepted (sampled c t) h → ltZ (pos 8 *ℤ thermDegrees c h) t ≡ false →
-      ltZ t (pos 8 *ℤ (thermDegrees c h -ℤ pos 5)) ≡ true → latched c (sampled c t ∷ h) ≡ false
+      (c : ChannelId) (t : ℤ) → Accepted (sampled c t) h → ltZ (pos 8 *ℤ thermDegrees c h) (readingFigure c t h) ≡ false →
+      ltZ (readingFigure c t h) (pos 8 *ℤ (thermDegrees c h -ℤ pos 5)) ≡ true → latched c (sampled c t ∷ h) ≡ false
   pub latchKept :
-      (c : ChannelId) (t : ℤ) → Accepted (sampled c t) h → ltZ (pos 8 *ℤ thermDegrees c h) t ≡ false →
-      ltZ t (pos 8 *ℤ (thermDegrees c h -ℤ pos 5)) ≡ false → latched c (sampled c t ∷ h) ≡ latched c h
+      (c : ChannelId) (t : ℤ) → Accepted (sampled c t) h → ltZ (pos 8 *ℤ thermDegrees c h) (readingFigure c t h) ≡ false →
+      ltZ (readingFigure c t h) (pos 8 *ℤ (thermDegrees c h -ℤ pos 5)) ≡ false → latched c (sampled c t ∷ h) ≡ latched c h
   -- a latch is moved by nothing but a sample of its channel, power and reset
   pub latchStays :
       (c : ChannelId) (e : Event) → Accepted e h → isKind kind.Sample e ≡ false → isKind kind.Power e ≡ false → isKind kind.Write e ≡ false →
@@ -76,10 +78,10 @@ pub record PageTemperatures (h : History) : Type 0 where
   -- 3: "With the channel enabled in 0x01, a sample sets the high bit if t > 8 high and the low bit if t < 8 low."
   pub high :
       (c : ChannelId) (t : ℤ) → Accepted (sampled c t) h → channelBit c h ≡ true →
-      highStatus c (sampled c t ∷ h) ≡ (ltZ (pos 8 *ℤ highDegrees c h) t || highStatus c h)
+      highStatus c (sampled c t ∷ h) ≡ (ltZ (pos 8 *ℤ highDegrees c h) (readingFigure c t h) || highStatus c h)
   pub low :
       (c : ChannelId) (t : ℤ) → Accepted (sampled c t) h → channelBit c h ≡ true →
-      lowStatus c (sampled c t ∷ h) ≡ (ltZ t (pos 8 *ℤ lowDegrees c h) || lowStatus c h)
+      lowStatus c (sampled c t ∷ h) ≡ (ltZ (readingFigure c t h) (pos 8 *ℤ lowDegrees c h) || lowStatus c h)
   -- 3: "A latch going from off to on sets the channel's THERM bit if the channel is enabled."
   pub thermBit :
       (c : ChannelId) (t : ℤ) → Accepted (sampled c t) h → channelBit c h ≡ true →

@@ -3,8 +3,9 @@ use Prim.Native.Nat.{ℕ, _+_, _*_, _/_, _%_, _<_, min, max}
 use mathlib.Core.Path.{_≡_}
 use mathlib.Core.Bool.{Bool, true, false, cond, _&&_, _||_}
 use mathlib.Core.List.{List, [], _∷_}
-use lib.IntN.{ℤ, pos}
+use lib.IntN.{ℤ, pos, negsuc, _+ℤ_, _-ℤ_}
 use lib.ListN.{getD}
+use lib.Signed.{leZ}
 use Rattle.integer.specs.Bits.{bitOf}
 use Rattle.part.specs.declared.ChannelId.{ChannelId}
 use Rattle.part.specs.declared.ChannelId.the-variants.{Local, Remote1, Remote2}
@@ -149,6 +150,30 @@ alarmStatus f h = bit (byFan 0x02 0x03 f) 0 h
 
 abbrev pub faultStatus : FanId → History → Bool
 faultStatus f h = bit (byFan 0x02 0x03 f) 1 h
+
+-- ---- the reading of a sample of t eighths (T-01): with 8 n added, or subtracted where bit 7 of the offset is 1; n is bits 3:0, in degrees
+
+abbrev pub offsetByte : ChannelId → History → ℕ
+offsetByte c h = register (byChannel 0x0D 0x0E 0x0F c) h
+
+abbrev pub eightOffsets : ChannelId → History → ℤ
+eightOffsets c h = pos (8 * (offsetByte c h % 16))
+
+abbrev pub moved : ChannelId → ℤ → History → ℤ
+moved c t h = cond (bitOf (offsetByte c h) 7) (t -ℤ eightOffsets c h) (t +ℤ eightOffsets c h)
+
+-- not above 1023, local not above 1022, and not below -1024
+abbrev pub top : ChannelId → ℤ
+top c = byChannel (pos 1022) (pos 1023) (pos 1023) c
+
+abbrev pub notAbove : (bound v : ℤ) → ℤ
+notAbove bound v = cond (leZ v bound) v bound
+
+abbrev pub notBelow : (bound v : ℤ) → ℤ
+notBelow bound v = cond (leZ bound v) v bound
+
+abbrev pub readingFigure : ChannelId → ℤ → History → ℤ
+readingFigure c t h = notBelow (negsuc 1023) (notAbove (top c) (moved c t h))
 
 -- ---- figures
 

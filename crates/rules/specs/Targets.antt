@@ -11,8 +11,9 @@ use Rattle.part.specs.declared.FanId.{FanId}
 use Rattle.part.specs.declared.FanId.the-variants.{One, Two}
 use Rattle.rules.specs.Registers.{config1, speeds, controlAt, behaviour}
 use Rattle.rules.specs.Fields.{assignment, automatic, speedCode, rangeCode, tminCode, thermDrivesFans}
-use Rattle.rules.specs.Events.{val, natural, samples, restarts}
+use Rattle.rules.specs.Events.{natural, samples, restarts}
 use Rattle.rules.specs.Stored.{Taken, storedAt, pinLow}
+use Rattle.rules.specs.Offsets.{measured}
 use Rattle.rules.specs.Temperatures.{hysteresis, temperature, thermAsserted}
 
 -- preamble: Tmin steps by 4 degrees from 0 to 124; R is 5, 10, 20, 40, 80 (reply 7 keeps the codes 5 to 7 out)
@@ -27,7 +28,7 @@ rangeOf control = getD (5 ∷ 10 ∷ 20 ∷ 40 ∷ []) (rangeCode control) 80
 unfoldable pub flag : ChannelId → Taken → Bool
 flag c [] = false
 flag c (e ∷ d) =
-    cond (restarts e) false (cond (samples c e) (hysteresis (flag c d) (pos (tminOf (storedAt (controlAt c) (e ∷ d)))) (val e)) (flag c d))
+    cond (restarts e) false (cond (samples c e) (hysteresis (flag c d) (pos (tminOf (storedAt (controlAt c) (e ∷ d)))) (measured c e d)) (flag c d))
 
 -- ---- rule 2: demands
 

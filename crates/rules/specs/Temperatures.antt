@@ -1,4 +1,5 @@
 -- Document 01, "Temperatures, latches and cards", over the accepted events: t in eighths of a degree, limits in signed degrees.
+-- t is the reading that a sample makes (T-01 of document 02).
 use Prim.Native.Nat.{ℕ, _-_, _/_, _%_}
 use mathlib.Core.Bool.{Bool, true, false, cond, not, _&&_, _||_}
 use mathlib.Core.List.{[], _∷_}
@@ -12,15 +13,16 @@ use Rattle.part.specs.declared.FanId.the-variants.{One, Two}
 use Rattle.event.specs.declared.Event.{Event}
 use Rattle.rules.specs.Registers.{config2, statusAt, highLimitAt, lowLimitAt, thermLimitAt}
 use Rattle.rules.specs.Fields.{channelEnabled}
-use Rattle.rules.specs.Events.{val, samples, reads, restarts}
+use Rattle.rules.specs.Events.{samples, reads, restarts}
 use Rattle.rules.specs.Stored.{Taken, storedAt, pointer}
+use Rattle.rules.specs.Offsets.{measured}
 
 -- ---- rule 1: readings
 
 -- the last reading since power or reset, which zero it
 unfoldable pub temperature : ChannelId → Taken → ℤ
 temperature c [] = pos 0
-temperature c (e ∷ d) = cond (restarts e) (pos 0) (cond (samples c e) (val e) (temperature c d))
+temperature c (e ∷ d) = cond (restarts e) (pos 0) (cond (samples c e) (measured c e d) (temperature c d))
 
 -- the whole part rounded down, in two's complement; -1, which is `negsuc 0`, is 255
 abbrev pub wholeByte : ℤ → ℕ
@@ -47,7 +49,7 @@ hysteresis on limit t = cond (ltZ (pos 8 *ℤ limit) t) true (cond (ltZ t (pos 8
 
 unfoldable pub latch : ChannelId → Taken → Bool
 latch c [] = false
-latch c (e ∷ d) = cond (restarts e) false (cond (samples c e) (hysteresis (latch c d) (limit (thermLimitAt c) (e ∷ d)) (val e)) (latch c d))
+latch c (e ∷ d) = cond (restarts e) false (cond (samples c e) (hysteresis (latch c d) (limit (thermLimitAt c) (e ∷ d)) (measured c e d)) (latch c d))
 
 -- THERM is asserted while a latch is on; nothing masks it
 unfoldable pub thermAsserted : Taken → Bool
@@ -77,13 +79,13 @@ clears c f e d = restarts e || (reads (statusAt f) (pointer d) e || not (channel
 unfoldable pub highBit : ChannelId → Taken → Bool
 highBit c [] = false
 highBit c (e ∷ d) =
-    cond (samples c e && (channelOn c (e ∷ d) && ltZ (pos 8 *ℤ limit (highLimitAt c) (e ∷ d)) (val e))) true
+    cond (samples c e && (channelOn c (e ∷ d) && ltZ (pos 8 *ℤ limit (highLimitAt c) (e ∷ d)) (measured c e d))) true
     (cond (clears c (limitBitsIn c) e d) false (highBit c d))
 
 unfoldable pub lowBit : ChannelId → Taken → Bool
 lowBit c [] = false
 lowBit c (e ∷ d) =
-    cond (samples c e && (channelOn c (e ∷ d) && ltZ (val e) (pos 8 *ℤ limit (lowLimitAt c) (e ∷ d)))) true
+    cond (samples c e && (channelOn c (e ∷ d) && ltZ (measured c e d) (pos 8 *ℤ limit (lowLimitAt c) (e ∷ d)))) true
     (cond (clears c (limitBitsIn c) e d) false (lowBit c d))
 
 unfoldable pub thermBit : ChannelId → Taken → Bool

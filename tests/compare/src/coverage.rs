@@ -1,4 +1,7 @@
-//! What the compared reports have reached.
+//! What the compared traces and reports have reached.
+
+use crate::offsets::{Offsets, CASES};
+use snezhulka::Event;
 
 const ANSWERS: usize = 12;
 const FULL_DUTY: usize = 240;
@@ -12,6 +15,7 @@ pub struct Coverage {
     therm: u64,
     fault: u64,
     duties: [bool; FULL_DUTY + 1],
+    samples: [[u64; 3]; CASES.len()],
 }
 
 impl Coverage {
@@ -25,15 +29,22 @@ impl Coverage {
             therm: 0,
             fault: 0,
             duties: [false; FULL_DUTY + 1],
+            samples: [[0; 3]; CASES.len()],
         }
     }
 
-    /// Counts the lines of one report.
-    pub fn count(&mut self, report: &[u8]) {
+    /// Counts the lines of one report, and what the samples meet where every line of the trace is right.
+    pub fn count(&mut self, events: Option<&[Event]>, report: &[u8]) {
         self.traces += 1;
+        let mut events = events.unwrap_or_default().iter();
+        let mut offsets = Offsets::none();
         for line in report.split(|&byte| byte == b'\n') {
             if let Some(number) = number_after(line, b"answer=") {
                 self.count_answer(number);
+                let done = events.next().filter(|_| number == 0);
+                if let Some((channel, met)) = done.and_then(|event| offsets.take(event)) {
+                    self.count_sample(channel, met);
+                }
             } else if let Some(duty) =
                 number_after(line, b"duty1=").or(number_after(line, b"duty2="))
             {
@@ -58,6 +69,12 @@ impl Coverage {
         }
     }
 
+    fn count_sample(&mut self, channel: usize, met: [bool; CASES.len()]) {
+        for (counts, met) in self.samples.iter_mut().zip(met) {
+            counts[channel] += u64::from(met);
+        }
+    }
+
     pub fn add(&mut self, other: &Coverage) {
         self.traces += other.traces;
         self.events += other.events;
@@ -69,6 +86,10 @@ impl Coverage {
         self.fault += other.fault;
         for (seen, more) in self.duties.iter_mut().zip(other.duties) {
             *seen |= more;
+        }
+        let sums = self.samples.as_flattened_mut().iter_mut();
+        for (sum, more) in sums.zip(other.samples.as_flattened()) {
+            *sum += more;
         }
     }
 
@@ -84,6 +105,10 @@ impl Coverage {
         println!("therm=1     {:>10}", self.therm);
         println!("fault=1     {:>10}", self.fault);
         println!("duties      {:>10}", self.distinct_duties());
+        println!("samples of the channels 0, 1, 2, by their offsets:");
+        for (case, [local, first, second]) in CASES.iter().zip(self.samples) {
+            println!("{case:<15} {local:>10} {first:>10} {second:>10}");
+        }
     }
 
     /// What was never reached; nothing if all was.
@@ -106,6 +131,11 @@ impl Coverage {
         if self.distinct_duties() < LEAST_DUTIES {
             missing.push(format!("{LEAST_DUTIES} distinct duties"));
         }
+        for (case, counts) in CASES.iter().zip(self.samples) {
+            for channel in (0..3).filter(|&channel| counts[channel] == 0) {
+                missing.push(format!("a sample of channel {channel}, {case}"));
+            }
+        }
         missing
     }
 }
@@ -123,6 +153,7 @@ mod tests {
     fn counts_what_a_report_holds() {
         let mut coverage = Coverage::none();
         coverage.count(
+            None,
             b"answer=0\ndata=0\nint=1\ntherm=0\nfault=0\nduty1=240\nduty2=17\nanswer=10\nline=5\n",
         );
         assert_eq!((coverage.traces, coverage.events), (1, 1));
@@ -132,7 +163,28 @@ mod tests {
     }
 
     #[test]
+    fn counts_the_samples_that_are_done() {
+        let (write, sample) = ([1, 44, 0x0d, 0x0f], [4, 0, 0, 1022]);
+        let mut coverage = Coverage::none();
+        let report = b"answer=0\nanswer=0\nanswer=0\nanswer=9\nanswer=0\n";
+        coverage.count(
+            Some(&[[0, 44, 0, 0], write, sample, sample, sample]),
+            report,
+        );
+        assert_eq!(
+            (coverage.samples[0], coverage.samples[5]),
+            ([2, 0, 0], [2, 0, 0])
+        );
+        coverage.count(Some(&[write, sample]), b"answer=2\nanswer=0\n");
+        assert_eq!(coverage.samples.as_flattened().iter().sum::<u64>(), 4);
+        let mut twice = Coverage::none();
+        twice.add(&coverage);
+        twice.add(&coverage);
+        assert_eq!(twice.samples[0], [4, 0, 0]);
+    }
+
+    #[test]
     fn nothing_reached_is_missing() {
-        assert_eq!(Coverage::none().missing().len(), 16);
+        assert_eq!(Coverage::none().missing().len(), 34);
     }
 }

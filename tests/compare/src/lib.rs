@@ -4,6 +4,7 @@ pub mod coverage;
 pub mod events;
 pub mod images;
 pub mod lines;
+pub mod offsets;
 pub mod program;
 pub mod random;
 pub mod shrink;

@@ -99,14 +99,15 @@ impl Finding {
         let expected = second_report(text);
         let report = snezhulka::report_of(text);
         let events = events::events_of(text);
-        let by_engine = events.as_deref().map(events::report_after);
+        let events = events.as_deref();
+        let by_engine = events.map(events::report_after);
         self.engine_traces += u64::from(by_engine.is_some());
-        let image_alike = events.is_none_or(|events| self.take_image(&events, index));
+        let image_alike = events.is_none_or(|events| self.take_image(events, index));
         let copy_alike = self.take_copy(text, index);
         let line_alike = self.take_line(text, index);
         let report_alike = report == expected && by_engine.is_none_or(|report| report == expected);
         if report_alike && image_alike && copy_alike && line_alike {
-            self.coverage.count(&report);
+            self.coverage.count(events, &report);
         } else {
             self.different = Some(index);
         }

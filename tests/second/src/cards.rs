@@ -66,6 +66,14 @@ fn duty_at(m: i32, t_min: i32, code: i32, t: i32) -> i32 {
     bench.clocks(20).duty[0]
 }
 
+// value register and 0x06 after a sample of t under an offset byte
+fn offset_bytes(channel: i32, byte: i32, t: i32) -> (u8, u8) {
+    let mut bench = Bench::new();
+    bench.write(0x0D + channel, byte);
+    bench.sample(channel, t);
+    (bench.read(0x0A + channel), bench.read(0x06))
+}
+
 fn lines(events: &[&str]) -> String {
     let names = ["kind", "who", "arg", "val"];
     let one = |e: &&str| -> String {
@@ -132,6 +140,48 @@ fn rounding_card() {
     bench.sample(2, 13);
     assert_eq!((bench.read(0x0A), bench.read(0x0C)), (255, 1));
     assert_eq!(bench.read(0x06), 0b11_101_000);
+}
+
+#[test]
+fn offset_cards() {
+    assert_eq!(offset_bytes(1, 0x03, 81), (13, 1));
+    assert_eq!(offset_bytes(1, 0x83, 81), (7, 1));
+    assert_eq!(offset_bytes(1, 0x8F, 80), (251, 0));
+    assert_eq!(offset_bytes(2, 0xFD, 0), (243, 0));
+    assert_eq!(offset_bytes(2, 0x80, 13), (1, 0b101_000));
+    assert_eq!(offset_bytes(0, 0x7F, 2), (15, 0b01_000_000));
+    assert_eq!(offset_bytes(0, 0xF0, 80), (10, 0));
+}
+
+#[test]
+fn offset_end_cards() {
+    assert_eq!(offset_bytes(1, 0x0F, 1023), (127, 7));
+    assert_eq!(offset_bytes(1, 0x0F, 904), (127, 7));
+    assert_eq!(offset_bytes(1, 0x0F, 902), (127, 6));
+    assert_eq!(offset_bytes(2, 0x8F, -1024), (128, 0));
+    assert_eq!(offset_bytes(2, 0x8F, -905), (128, 0));
+    assert_eq!(offset_bytes(2, 0x8F, -903), (128, 0b001_000));
+    assert_eq!(offset_bytes(0, 0x01, 1022), (127, 0b11_000_000));
+    assert_eq!(offset_bytes(0, 0x01, 1012), (127, 0b10_000_000));
+    assert_eq!(offset_bytes(0, 0x81, -1024), (128, 0));
+}
+
+#[test]
+fn an_offset_waits_for_the_next_sample() {
+    let mut bench = Bench::slope(5, 20, 3);
+    bench.write(0x1A, 23);
+    assert_eq!(bench.sample(1, 161).duty[0], 240);
+    assert_eq!(bench.clocks(20).duty[0], 80);
+    let reply = bench.write(0x0E, 0x03);
+    assert_eq!(
+        (reply.duty[0], reply.therm, bench.read(0x0B)),
+        (80, false, 20)
+    );
+    assert!(bench.sample(1, 161).therm);
+    assert_eq!((bench.read(0x0B), bench.read(0x02)), (23, 0x11));
+    bench.write(0x0E, 0x86);
+    assert_eq!(bench.sample(1, 161).duty[0], 0);
+    assert_eq!((bench.read(0x0B), bench.read(0x06)), (14, 1));
 }
 
 #[test]

@@ -7,6 +7,7 @@ pub const STATUS_2: usize = 0x03;
 pub const EXTENDED: usize = 0x06;
 pub const SPEED: usize = 0x08; // fan 1; fan 2 follows
 pub const READING: usize = 0x0A; // local; remote 1, remote 2 follow
+pub const OFFSET: usize = 0x0D; // local; remote 1, remote 2 follow
 pub const TACH_LIMIT: usize = 0x10; // fan 1; fan 2 follows
 pub const HIGH_LIMIT: usize = 0x14; // local; each channel 4 further
 pub const LOW_LIMIT: usize = 0x15;

@@ -3,32 +3,49 @@
 use super::{any_number, Text, KINDS, REGISTERS};
 use crate::random::Random;
 
-/// What stays the same through one trace, and the readings last sampled.
+/// Bytes of 0x00 with monitoring on, the more telling ones twice.
+const MODES: [i32; 9] = [0x11, 0x13, 0x91, 0x93, 0x93, 0xb3, 0xd3, 0xf3, 0xf3];
+
+/// What stays the same through one trace, and what was last sampled, and written as its offset, on each channel.
 struct Guide<'a> {
     random: &'a mut Random,
     text: Text,
     address: i32,
     tach_limit: i32,
     failures: usize,
+    start: i32,
     swing: i32,
-    readings: [i32; 3],
+    ends: usize,
+    samples: [i32; 3],
+    offsets: [i32; 3],
 }
 
 /// One trace of up to `most` steps, most of them one event, some a few.
 pub fn guided(random: &mut Random, most: usize) -> Vec<u8> {
-    let start = random.pick(&[100, 200, 320, 480, 600]);
+    // Most traces are warm, a few are about an end of the range.
+    let start = match random.percent(88) {
+        true => random.pick(&[100, 200, 320, 480, 600]),
+        false => random.pick(&[960, 960, -960]),
+    };
     let mut guide = Guide {
         address: random.pick(&[44, 44, 45, 46]),
         tach_limit: random.pick(&[255, 254, 200]),
         failures: random.pick(&[10, 50, 90, 100]),
+        start,
         swing: random.pick(&[10, 40, 150]),
-        readings: [start; 3],
+        ends: random.pick(&[0, 4, 25]),
+        samples: [start; 3],
+        offsets: [0; 3],
         text: Text::new(),
         random,
     };
     guide.power(20);
     guide.set_up_control();
     guide.set_up_limits();
+    guide.set_up_offsets();
+    if start > 900 && guide.random.percent(80) {
+        guide.set_up_heat();
+    }
     let weights = guide.weights();
     for _ in 0..guide.random.below(most) {
         guide.step(&weights);
@@ -38,6 +55,9 @@ pub fn guided(random: &mut Random, most: usize) -> Vec<u8> {
 
 impl Guide<'_> {
     fn write(&mut self, register: i32, byte: i32) {
+        if let 0x0d..=0x0f = register {
+            self.offsets[register as usize - 0x0d] = byte;
+        }
         self.text.add("write", self.address, register, byte);
     }
 
@@ -48,9 +68,7 @@ impl Guide<'_> {
     }
 
     fn set_up_control(&mut self) {
-        let mode = self
-            .random
-            .pick(&[0x11, 0x13, 0x91, 0x93, 0x93, 0xb3, 0xd3, 0xf3, 0xf3]);
+        let mode = self.random.pick(&MODES);
         self.write(0x00, mode);
         if self.random.percent(60) {
             let filter = 0x03
@@ -73,14 +91,17 @@ impl Guide<'_> {
     fn set_up_limits(&mut self) {
         for register in [0x24, 0x25, 0x26] {
             if self.random.percent(70) {
+                let near = (self.start / 32 + self.random.between(-4, 4)).clamp(0, 31);
+                let any = self.random.between(4, 15);
                 let range =
-                    (self.random.between(4, 15) << 3) | self.random.pick(&[0, 1, 2, 3, 4, 4]);
+                    (self.random.pick(&[near, any]) << 3) | self.random.pick(&[0, 1, 2, 3, 4, 4]);
                 self.write(register, range);
             }
         }
         for register in [0x14, 0x15, 0x16, 0x18, 0x19, 0x1a, 0x1c, 0x1d, 0x1e] {
-            if self.random.percent(20) {
-                let limit = self.random.between(20, 109);
+            if self.random.percent(25) {
+                let (near, any) = (self.near_limit(), self.random.between(20, 109));
+                let limit = self.random.pick(&[near, any]);
                 self.write(register, limit);
             }
         }
@@ -90,8 +111,44 @@ impl Guide<'_> {
         }
     }
 
+    /// A limit so near to the start that an offset decides.
+    fn near_limit(&mut self) -> i32 {
+        (self.start / 8 + self.random.between(-15, 15)).clamp(-128, 127) & 0xff
+    }
+
+    fn set_up_offsets(&mut self) {
+        for register in [0x0d, 0x0e, 0x0f] {
+            if self.random.percent(50) {
+                let byte = self.offset_byte();
+                self.write(register, byte);
+            }
+        }
+    }
+
+    /// Lets the demands of hot channels be seen, the local one's above all: no latch drives the fans, and Tmin is high.
+    fn set_up_heat(&mut self) {
+        self.write(0x00, 0xf3);
+        self.write(0x3f, 0x00);
+        for (register, least, widest) in [(0x24, 28, 2), (0x25, 30, 4), (0x26, 30, 4)] {
+            let range = (self.random.between(least, 31) << 3) | self.random.between(0, widest);
+            self.write(register, range);
+        }
+        if self.random.percent(50) {
+            let offset = self.random.between(8, 15);
+            self.write(0x0d, offset);
+        }
+    }
+
+    /// Any byte; minus zero, and those that would be another number as two's complement, more often.
+    fn offset_byte(&mut self) -> i32 {
+        let any = self.random.between(0, 255);
+        self.random.pick(&[
+            any, any, any, any, 0x03, 0x0f, 0x7f, 0x80, 0x83, 0x8d, 0x8f, 0xf3, 0xfd,
+        ])
+    }
+
     /// How often each step comes, in the order of `step`.
-    fn weights(&mut self) -> [usize; 10] {
+    fn weights(&mut self) -> [usize; 11] {
         [
             self.random.pick(&[20, 60, 120]),
             self.random.pick(&[20, 80]),
@@ -102,6 +159,7 @@ impl Guide<'_> {
             self.random.pick(&[0, 0, 6]),
             self.random.pick(&[0, 6, 30]),
             self.random.pick(&[0, 0, 1]),
+            self.random.pick(&[0, 10, 30]),
             self.random.pick(&[0, 2]),
         ]
     }
@@ -122,27 +180,57 @@ impl Guide<'_> {
             5 => self.text.add("read", self.address, 0, 0),
             6 => self.text.add("pin", 0, 0, self.random.between(0, 1)),
             7 => self.write_any(),
-            8 => self.power(50),
+            8 => self.restart(),
+            9 => self.offset(),
             _ => self.odd(),
         }
     }
 
     fn sample(&mut self) {
         let channel = self.random.below(3);
-        let near = self.readings[channel] + self.random.between(-self.swing, self.swing);
-        let mut reading = match self.random.percent(97) {
+        if self.offsets[channel] != 0 && self.random.percent(self.ends) {
+            let end = self.near_an_end(channel);
+            return self.add_sample(channel, end);
+        }
+        let near = self.samples[channel] + self.random.between(-self.swing, self.swing);
+        let mut sample = match self.random.percent(97) {
             true => near.clamp(-1024, 1023),
             false => self.random.between(-1024, 1023),
         };
-        if reading.abs() > 900 && self.random.percent(50) {
-            reading = 300;
+        if sample.abs() > 900 && self.random.percent(50) {
+            sample = self.start;
         }
-        self.readings[channel] = reading;
+        self.samples[channel] = sample;
+        self.add_sample(channel, sample);
+    }
+
+    fn add_sample(&mut self, channel: usize, mut sample: i32) {
         // The local channel takes even numbers only.
         if channel == 0 && self.random.percent(99) {
-            reading &= !1;
+            sample &= !1;
         }
-        self.text.add("sample", channel as i32, 0, reading);
+        self.text.add("sample", channel as i32, 0, sample);
+    }
+
+    /// At or near an end of the range, or just beyond it; most often the end that the channel's offset leads beyond.
+    fn near_an_end(&mut self, channel: usize) -> i32 {
+        let (few, many) = (self.random.between(-1, 3), self.random.between(0, 130));
+        let inward = self.random.pick(&[few, many]);
+        let subtracts = self.offsets[channel] & 0x80 != 0;
+        match subtracts ^ self.random.percent(20) {
+            true => -1024 + inward,
+            false => 1023 - inward,
+        }
+    }
+
+    /// Another offset; every other time the last sample follows again, so that nothing but the offset is new.
+    fn offset(&mut self) {
+        let channel = self.random.below(3);
+        let byte = self.offset_byte();
+        self.write(0x0d + channel as i32, byte);
+        if self.random.percent(50) {
+            self.add_sample(channel, self.samples[channel]);
+        }
     }
 
     fn tach(&mut self) {
@@ -172,19 +260,32 @@ impl Guide<'_> {
             .add_times(self.random.pick(&[1, 2]), "read", self.address, 0, 0);
     }
 
+    /// Power, or a software reset; most often monitoring goes on.
+    fn restart(&mut self) {
+        let reset = self.random.between(0x80, 0xff);
+        match self.random.percent(50) {
+            true => self.power(50),
+            false => self.write(0x01, reset),
+        }
+        if self.random.percent(80) {
+            let mode = self.random.pick(&MODES);
+            self.write(0x00, mode);
+        }
+    }
+
     fn write_any(&mut self) {
         let register = self.random.pick(&REGISTERS);
         let any = self.random.between(0, 255);
         // Bytes that keep the keeper going come more often than others.
         let byte = match register {
-            0x00 if self.random.percent(80) => self
-                .random
-                .pick(&[0x11, 0x13, 0x91, 0x93, 0xb3, 0xd3, 0xf3]),
+            0x00 if self.random.percent(80) => self.random.pick(&MODES),
             0x01 if self.random.percent(90) => {
                 let one_off = 0x7f & !(1 << self.random.below(7));
                 self.random.pick(&[0x7f, one_off])
             }
+            0x0d..=0x0f => self.offset_byte(),
             0x10 | 0x11 if self.random.percent(70) => self.tach_limit,
+            0x14..=0x1e if self.random.percent(50) => self.near_limit(),
             0x23 if self.random.percent(70) => any | 0x03,
             0x24..=0x26 if self.random.percent(90) => {
                 (any & 0x78) | self.random.pick(&[0, 1, 2, 3, 4, 4, 5])

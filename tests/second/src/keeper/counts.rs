@@ -4,7 +4,9 @@ use super::Keeper;
 use crate::table::*;
 
 impl Keeper {
-    pub(super) fn sample(&mut self, channel: usize, t: i32) {
+    // T-01: the reading t is the sample with the channel's offset
+    pub(super) fn sample(&mut self, channel: usize, sampled: i32) {
+        let t = held(channel, sampled + 8 * self.offset(channel));
         self.store_reading(channel, t);
         self.judge_limits(channel, t);
         self.judge_latch(channel, t);
@@ -82,6 +84,12 @@ impl Keeper {
             self.spin_up[fan] = self.spin_up[fan].saturating_sub(1);
         }
     }
+}
+
+// T-01: the ends of a reading; a local one stays even
+fn held(channel: usize, sum: i32) -> i32 {
+    let highest = if channel == 0 { 1022 } else { 1023 };
+    sum.clamp(-1024, highest)
 }
 
 // temperatures 2, duty 1: on above the edge, off more than 5 degrees below it

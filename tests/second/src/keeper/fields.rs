@@ -84,6 +84,16 @@ impl Keeper {
         i32::from(self.regs[first + 4 * channel] as i8)
     }
 
+    // Tables 31 to 33: whole degrees in bits 3:0, subtracted where bit 7 is 1
+    pub(super) fn offset(&self, channel: usize) -> i32 {
+        let degrees = i32::from(self.regs[OFFSET + channel] & 0x0F);
+        if self.bit(OFFSET + channel, 7) {
+            -degrees
+        } else {
+            degrees
+        }
+    }
+
     // the stored reading in eighths: temperatures 1 read backwards
     pub(super) fn reading(&self, channel: usize) -> i32 {
         let extended = self.regs[EXTENDED];
