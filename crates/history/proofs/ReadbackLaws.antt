@@ -2,8 +2,7 @@
 use mathlib.Core.Path.{_≡_, subst}
 use mathlib.Core.Bool.{true}
 use mathlib.Core.List.{_∷_}
-use lib.IntN.{ℤ, negsuc}
-use lib.Signed.{leZ}
+use lib.IntN.{ℤ}
 use borrow.Author.Tests.{eqb-true}
 use Rattle.integer.proofs.BoolLaws.{both}
 use Rattle.part.specs.declared.ChannelId.{ChannelId}
@@ -12,15 +11,15 @@ use Rattle.event.specs.Kinds.{isKind, placeOf, kindOf}
 use Rattle.event.specs.declared.Event.{Event}
 use Rattle.event.specs.declared.Kind.the-variants as kind
 use Rattle.rules.specs.Registers.{offsetAt}
-use Rattle.rules.specs.Events.{val, fromTo, lies, samples}
-use Rattle.rules.specs.Stored.{Taken, storedAt}
+use Rattle.rules.specs.Events.{val, samples}
+use Rattle.rules.specs.Stored.{storedAt}
 use Rattle.rules.specs.Replies.{History, taken, accepted}
-use Rattle.rules.specs.Offsets.{highest, measuredZ}
+use Rattle.rules.specs.Offsets.{measuredZ}
 use Rattle.rules.specs.Temperatures.{temperature}
 use Rattle.rules.proofs.TakenLaws.{took, accepted-is}
 use Rattle.rules.proofs.QuietLaws.{uncounted}
 use Rattle.rules.proofs.CalmLaws.{byte-same}
-use Rattle.rules.proofs.ReadingLaws.{eighths, within, not-above, local-even, reads-back}
+use Rattle.rules.proofs.ReadingLaws.{eighths, within, local-even, reads-back}
 use Rattle.history.specs.Readback.{ReadsBack, Readback}
 
 -- by the registers' own addresses
@@ -28,9 +27,6 @@ back : (c : ChannelId) (h : History) → ReadsBack c (temperature c (taken h)) h
 back Local h = record { small = eighths Local (taken h); back = reads-back (took h) Local }
 back Remote1 h = record { small = eighths Remote1 (taken h); back = reads-back (took h) Remote1 }
 back Remote2 h = record { small = eighths Remote2 (taken h); back = reads-back (took h) Remote2 }
-
-in-range : (c : ChannelId) (d : Taken) → lies (fromTo (negsuc 1023) (highest c)) (temperature c d) ≡ true
-in-range c d = rw (both (leZ (negsuc 1023) (temperature c d)) _ (within c d) .0, not-above c d)
 
 -- ---- an accepted sample
 
@@ -44,7 +40,7 @@ module _ (c : ChannelId) (e : Event) (y : samples c e ≡ true) where
 pub readback : (h : History) → Readback h
 readback h =
     record {
-      within = λ c. in-range c (taken h);
+      within = λ c. within c (taken h);
       quarters = local-even (took h);
       reading = λ c. back c h;
       sampled = λ c e y go. subst (λ (t : ℤ). ReadsBack c t (e ∷ h)) (read-sample c e y h go) (back c (e ∷ h));

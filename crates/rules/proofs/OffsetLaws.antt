@@ -1,12 +1,12 @@
 -- The reading that a sample makes: the page's figure is the rules', it is in its range, and of local even. Assumes nothing.
-use Prim.Native.Nat.{ℕ, zero, suc, _+_, _-_, _*_, _%_, _≤_}
+use Prim.Native.Nat.{ℕ, zero, suc, _+_, _-_, _*_, _%_}
 use mathlib.Core.Path.{_≡_, refl, ap, _∙_}
 use mathlib.Core.Bool.{Bool, true, false, cond}
 use mathlib.Core.List.{_∷_}
 use native.Mathlib.Omega.{arith}
 use lib.Dec.{ltb}
 use lib.IntN.{ℤ, pos, negsuc, negℤ, _+ℤ_, _-ℤ_, _*ℤ_, subℕ, +ℤ-idr}
-use lib.Signed.{leZ, ltZ}
+use lib.Signed.{ltZ}
 use borrow.Author.Tests.{ltb-true, ltb-false, eqb-false, lt-leb, le-leb, ne-eqb}
 use Rattle.integer.specs.Bits.{bitOf}
 use Rattle.integer.proofs.BoolLaws.{by-cases, either}
@@ -66,35 +66,21 @@ figure-is Remote2 t h = rw (offset-shown Remote2 t (taken h)) (by-figure 1023 (v
 abbrev summed : (offset : ℕ) (t : ℤ) → ℤ
 summed b t = t +ℤ (pos 8 *ℤ offsetOf b)
 
-clamp-lies : (high : ℕ) (t : ℤ) → high ≤ 1023 → lies (fromTo (negsuc 1023) (pos 1023)) (clamped (negsuc 1023) (pos high) t) ≡ true
-clamp-lies high (pos n) l =
+clamp-lies : (high : ℕ) (t : ℤ) → lies (fromTo (negsuc 1023) (pos high)) (clamped (negsuc 1023) (pos high) t) ≡ true
+clamp-lies high (pos n) =
     by-cases (ltb high n)
-    (λ y. rw (y, le-leb high 1023 l))
-    (λ y. rw (y, le-leb n 1023 (omega (arith, ltb-false high n y))))
-clamp-lies high (negsuc n) l =
+    (λ y. rw (y, le-leb high high (omega arith)))
+    (λ y. rw (y, le-leb n high (ltb-false high n y)))
+clamp-lies high (negsuc n) =
     by-cases (ltb 1023 n)
     (λ y. rw y)
     (λ y. rw (y, le-leb n 1023 (ltb-false 1023 n y)))
 
-pub measured-lies : (c : ChannelId) (b : ℕ) (t : ℤ) → lies (fromTo (negsuc 1023) (pos 1023)) (measuredZ c b t) ≡ true
+pub measured-lies : (c : ChannelId) (b : ℕ) (t : ℤ) → lies (fromTo (negsuc 1023) (highest c)) (measuredZ c b t) ≡ true
 unfolding measuredZ
-measured-lies Local b t = clamp-lies 1022 (summed b t) (omega arith)
-measured-lies Remote1 b t = clamp-lies 1023 (summed b t) (omega arith)
-measured-lies Remote2 b t = clamp-lies 1023 (summed b t) (omega arith)
-
--- not above the highest of its channel
-clamp-below : (high : ℕ) (t : ℤ) → leZ (clamped (negsuc 1023) (pos high) t) (pos high) ≡ true
-clamp-below high (pos n) =
-    by-cases (ltb high n)
-    (λ y. rw (y, le-leb high high (omega arith)))
-    (λ y. rw (y, le-leb n high (ltb-false high n y)))
-clamp-below high (negsuc n) = by-cases (ltb 1023 n) (λ y. rw y) (λ y. rw y)
-
-pub measured-below : (c : ChannelId) (b : ℕ) (t : ℤ) → leZ (measuredZ c b t) (highest c) ≡ true
-unfolding measuredZ
-measured-below Local b t = clamp-below 1022 (summed b t)
-measured-below Remote1 b t = clamp-below 1023 (summed b t)
-measured-below Remote2 b t = clamp-below 1023 (summed b t)
+measured-lies Local b t = clamp-lies 1022 (summed b t)
+measured-lies Remote1 b t = clamp-lies 1023 (summed b t)
+measured-lies Remote2 b t = clamp-lies 1023 (summed b t)
 
 -- ---- even
 

@@ -1,13 +1,12 @@
 -- A reading comes back from its register and from 0x06 without loss. Assumes nothing.
-use Prim.Native.Nat.{ℕ, suc, _+_, _-_, _*_, _/_, _%_, _<_}
+use Prim.Native.Nat.{ℕ, suc, _+_, _-_, _*_, _/_, _%_, _<_, _≤_}
 use mathlib.Core.Path.{_≡_, refl, sym, ap, _∙_}
 use mathlib.Core.Bool.{true, false}
 use mathlib.Core.List.{[], _∷_}
 use native.Mathlib.Omega.{arith}
 use lib.Dec.{leb}
 use lib.IntN.{ℤ, pos, negsuc, _+ℤ_, _*ℤ_}
-use lib.Signed.{leZ}
-use borrow.Author.Tests.{eqb-false, lt-ltb, le-ltb, leb-true}
+use borrow.Author.Tests.{eqb-false, lt-ltb, le-ltb, le-leb, leb-true}
 use Rattle.integer.proofs.BoolLaws.{by-cases, either, both}
 use Rattle.part.specs.declared.ChannelId.{ChannelId}
 use Rattle.part.specs.declared.ChannelId.the-variants.{Local, Remote1, Remote2}
@@ -23,7 +22,7 @@ use Rattle.rules.specs.Temperatures.{temperature, wholeByte, remainder, 
 use Rattle.rules.specs.Shows.{remaindersByte, byteAt, value}
 use Rattle.rules.specs.PageWords.{sampled, byChannel}
 use Rattle.rules.proofs.TakenLaws.{Took, none, more, went}
-use Rattle.rules.proofs.OffsetLaws.{measured-lies, measured-below, measured-even}
+use Rattle.rules.proofs.OffsetLaws.{measured-lies, measured-even}
 
 -- ---- the whole part and the remainder
 
@@ -44,10 +43,21 @@ even : (t : ℤ) → isOdd t ≡ false → 2 * (remainder t / 2) ≡ remainder t
 even (pos n) y = omega (arith, eqb-false (n % 2) 1 y)
 even (negsuc n) y = omega (arith, eqb-false (n % 2) 0 y)
 
-zero-below : (c : ChannelId) → leZ (pos 0) (highest c) ≡ true
-zero-below Local = refl
-zero-below Remote1 = refl
-zero-below Remote2 = refl
+-- ---- the range of a channel is within that of two bytes
+
+widened : (high : ℕ) (t : ℤ) → high ≤ 1023 → lies (fromTo (negsuc 1023) (pos high)) t ≡ true → lies (fromTo (negsuc 1023) (pos 1023)) t ≡ true
+widened high (pos n) h y = le-leb n 1023 (omega (arith, leb-true n high y))
+widened high (negsuc n) h y = y
+
+wide : (c : ChannelId) (t : ℤ) → lies (fromTo (negsuc 1023) (highest c)) t ≡ true → lies (fromTo (negsuc 1023) (pos 1023)) t ≡ true
+wide Local t y = widened 1022 t (omega arith) y
+wide Remote1 t y = y
+wide Remote2 t y = y
+
+zero-lies : (c : ChannelId) → lies (fromTo (negsuc 1023) (highest c)) (pos 0) ≡ true
+zero-lies Local = refl
+zero-lies Remote1 = refl
+zero-lies Remote2 = refl
 
 -- ---- back from 0x06
 
@@ -86,22 +96,17 @@ last-reading d t Remote2 = refl
 
 -- ---- after every list of accepted events
 
--- a reading is in the range that two bytes hold, and not above the highest of its channel
-pub within : (c : ChannelId) (d : Taken) → lies (fromTo (negsuc 1023) (pos 1023)) (temperature c d) ≡ true
+-- a reading is in the range of its channel
+pub within : (c : ChannelId) (d : Taken) → lies (fromTo (negsuc 1023) (highest c)) (temperature c d) ≡ true
 unfolding temperature
-within c [] = refl
-within c (e ∷ d) = either P (restarts e) refl (either P (samples c e) (measured-lies c _ (val e)) (within c d))
+within c [] = zero-lies c
+within c (e ∷ d) = either P (restarts e) (zero-lies c) (either P (samples c e) (measured-lies c _ (val e)) (within c d))
   where
     P : ℤ → Type 0
-    P v = lies (fromTo (negsuc 1023) (pos 1023)) v ≡ true
+    P v = lies (fromTo (negsuc 1023) (highest c)) v ≡ true
 
-pub not-above : (c : ChannelId) (d : Taken) → leZ (temperature c d) (highest c) ≡ true
-unfolding temperature
-not-above c [] = zero-below c
-not-above c (e ∷ d) = either P (restarts e) (zero-below c) (either P (samples c e) (measured-below c _ (val e)) (not-above c d))
-  where
-    P : ℤ → Type 0
-    P v = leZ v (highest c) ≡ true
+pub in-bytes : (c : ChannelId) (d : Taken) → lies (fromTo (negsuc 1023) (pos 1023)) (temperature c d) ≡ true
+in-bytes c d = wide c (temperature c d) (within c d)
 
 -- the local one is even
 even-after : (e : Event) (d : Taken) → oddLocal e ≡ false → isOdd (temperature Local d) ≡ false → isOdd (temperature Local (e ∷ d)) ≡ false
@@ -131,4 +136,4 @@ module _ {d : Taken} (t : Took d) where
   whole-back Remote2 = refl
 
   pub reads-back : (c : ChannelId) → temperature c d ≡ (pos 8 *ℤ degrees (value (byChannel 0x0A 0x0B 0x0C c) d)) +ℤ pos (rest c (value 0x06 d))
-  reads-back c = rw (whole-back c, rest-back c) (split (temperature c d) (within c d))
+  reads-back c = rw (whole-back c, rest-back c) (split (temperature c d) (in-bytes c d))
