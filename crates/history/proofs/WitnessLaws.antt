@@ -14,6 +14,7 @@ use Rattle.rules.specs.Registers.{says, table, existsAt, maskAt, resetAt, readO
 use Rattle.rules.specs.Events.{rangesOf}
 use Rattle.rules.specs.Stored.{powered, ownAddress, storedAt, pointer, pinLow}
 use Rattle.rules.specs.Replies.{lowest, replyTo, History, taken}
+use Rattle.rules.specs.Offsets.{measuredZ}
 use Rattle.rules.specs.Temperatures.{temperature, latch, thermAsserted}
 use Rattle.rules.specs.Targets.{rangeOf, flag, demand, assignedBy, targetOf, target, overridden}
 use Rattle.rules.specs.Duties.{enabled, filtered, rateOf, spinUpOf, nearer, dutyAfter, spinAfter, spin, duty, failed}
@@ -61,7 +62,7 @@ flat-stretch = refl
 pub witness : Witness
 unfolding periodsIn outside taken replyTo lowest rangesOf existsAt readOnlyAt maskAt resetAt says table powered ownAddress storedAt pointer pinLow
     temperature latch thermAsserted flag demand assignedBy targetOf target overridden rateOf spinUpOf nearer dutyAfter spinAfter spin duty failed
-    mergedOf rangeOf
+    mergedOf rangeOf measuredZ
 witness =
     record {
       stretch = stretched One 80 (rampedDown ++ spunUp) startedFiltered ramp-stretch;
@@ -79,4 +80,8 @@ witness =
       on = refl;
       over = refl;
       full = shown-is Two (pulledLow ∷ started);
+      added = record { goes = refl; then = refl };
+      subtracted = record { goes = refl; then = refl };
+      above = record { goes = refl; then = refl };
+      below = record { goes = refl; then = refl };
     }

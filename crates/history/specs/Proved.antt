@@ -28,5 +28,5 @@ pub record Proved (h : History) : Type 0 where
   pub counts : Counts h
   -- every register value is a byte, and no duty is above 240 slots
   pub bounds : Bounds h
-  -- the premises of demand 3 can be met
+  -- the premises of demand 3, and of T-01's sentences, can be met
   pub witness : Witness

@@ -1,15 +1,18 @@
--- Demand 3 speaks of something: lists whose stretch meets every premise, with a gap and periods above 0.
+-- Demand 3 speaks of something: lists whose stretch meets every premise, with a gap and periods above 0. So does T-01: samples under offsets.
 use Prim.Native.Nat.{ℕ, _<_}
 use mathlib.Core.Path.{_≡_}
 use mathlib.Core.Bool.{true, false}
 use mathlib.Core.List.{List, [], _∷_, _++_}
-use lib.IntN.{pos}
+use lib.IntN.{ℤ, pos, negsuc}
+use Rattle.part.specs.declared.ChannelId.{ChannelId}
+use Rattle.part.specs.declared.ChannelId.the-variants.{Local, Remote1}
 use Rattle.part.specs.declared.FanId.the-variants.{One, Two}
 use Rattle.event.specs.declared.Event.{Event}
-use Rattle.rules.specs.Replies.{History, taken}
+use Rattle.rules.specs.Replies.{History, taken, accepted}
+use Rattle.rules.specs.Temperatures.{temperature}
 use Rattle.rules.specs.Targets.{overridden}
 use Rattle.rules.specs.Duties.{enabled, filtered, rate, duty}
-use Rattle.rules.specs.PageWords.{power, write, point, turned, pulledLow, tenth}
+use Rattle.rules.specs.PageWords.{power, write, sampled, turned, pulledLow, tenth}
 use Rattle.drive.specs.Ramp.{outside}
 use Rattle.history.specs.Demand3.{shownDuty, spinLeft, periodsIn, Stretch}
 
@@ -27,6 +30,17 @@ spunUp = tenth ∷ tenth ∷ []
 
 abbrev pub rampedDown : List Event
 rampedDown = turned One ∷ write (pos 45) (pos 0x00) (pos 0) ∷ turned Two ∷ turned One ∷ []
+
+-- power at address 44 and monitoring (0x00); an offset of 15 degrees less for remote 1 (0x0E), of 15 more for local (0x0D)
+abbrev pub offsets : History
+offsets =
+    write (pos 44) (pos 0x0D) (pos 0x0F) ∷ write (pos 44) (pos 0x0E) (pos 0x8F) ∷ write (pos 44) (pos 0x00) (pos 0x91)
+    ∷ power (pos 44) (pos 0) (pos 0) ∷ []
+
+-- the reading after a sample of t that is accepted
+pub record Reads (c : ChannelId) (t reading : ℤ) : Type 0 where
+  pub goes : accepted (sampled c t) offsets ≡ true
+  pub then : temperature c (taken (sampled c t ∷ offsets)) ≡ reading
 
 pub record Witness : Type 0 where
   -- a filtered fan: a stretch at 80 slots, begun at 240, and two periods of 4 slots
@@ -48,3 +62,8 @@ pub record Witness : Type 0 where
   pub on : enabled Two (taken (pulledLow ∷ started)) ≡ true
   pub over : overridden (taken (pulledLow ∷ started)) ≡ true
   pub full : shownDuty Two (pulledLow ∷ started) ≡ 240
+  -- samples under an offset: added, subtracted, held above, held below
+  pub added : Reads Local (pos 160) (pos 280)
+  pub subtracted : Reads Remote1 (pos 160) (pos 40)
+  pub above : Reads Local (pos 1022) (pos 1022)
+  pub below : Reads Remote1 (negsuc 1000) (negsuc 1023)
