@@ -1,3 +1,2 @@
 pub mod RampLaws
-pub mod DriveLaws
 pub mod Laws

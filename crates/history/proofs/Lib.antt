@@ -7,6 +7,8 @@ pub mod ValueLaws
 pub mod Agree
 pub mod Demand1Laws
 pub mod StretchLaws
+pub mod MovingTargetLaws
+pub mod StillTargetLaws
 pub mod Demand3Laws
 pub mod BoundsLaws
 pub mod ReadbackLaws

@@ -5,6 +5,7 @@ use Rattle.history.specs.Proved.{Proved}
 use Rattle.history.proofs.Demand1Laws.{demand1}
 use Rattle.history.proofs.Agree.{agreement}
 use Rattle.history.proofs.ReadbackLaws.{readback}
+use Rattle.history.proofs.MovingTargetLaws.{moving-target}
 use Rattle.history.proofs.Demand3Laws.{demand3}
 use Rattle.history.proofs.CountsLaws.{counts}
 use Rattle.history.proofs.BoundsLaws.{bounds}
@@ -17,6 +18,7 @@ proved h =
       agreement = agreement h;
       readback = readback h;
       demand3 = demand3 h;
+      movingTarget = moving-target h;
       page = page h;
       counts = counts h;
       bounds = bounds h;

@@ -1,6 +1,7 @@
 pub mod Agreement
 pub mod Demand1
 pub mod Demand3
+pub mod MovingTarget
 pub mod Bounds
 pub mod Readback
 pub mod Counts

@@ -1,5 +1,4 @@
--- Demand 3 speaks of something: lists whose stretch meets every premise, with a gap and periods above 0. So does T-01: samples under offsets.
-use Prim.Native.Nat.{ℕ, _<_}
+-- Demand 3 and T-13 speak of something: lists whose stretch meets every premise, with a gap and periods above 0. So does T-01: samples under offsets.
 use mathlib.Core.Path.{_≡_}
 use mathlib.Core.Bool.{true, false}
 use mathlib.Core.List.{List, [], _∷_, _++_}
@@ -10,11 +9,12 @@ use Rattle.part.specs.declared.FanId.the-variants.{One, Two}
 use Rattle.event.specs.declared.Event.{Event}
 use Rattle.rules.specs.Replies.{History, taken, accepted}
 use Rattle.rules.specs.Temperatures.{temperature}
-use Rattle.rules.specs.Targets.{overridden}
+use Rattle.rules.specs.Targets.{target, overridden}
 use Rattle.rules.specs.Duties.{enabled, filtered, rate, duty}
 use Rattle.rules.specs.PageWords.{power, write, sampled, turned, pulledLow, tenth}
 use Rattle.drive.specs.Ramp.{outside}
 use Rattle.history.specs.Demand3.{shownDuty, spinLeft, periodsIn, Stretch}
+use Rattle.history.specs.MovingTarget.{MovingStretch}
 
 -- power at address 44; a spin-up of 2 clocks (0x20); manual setting of 5 x 16 slots (0x00): the fan starts
 abbrev pub started : History
@@ -31,6 +31,31 @@ spunUp = tenth ∷ tenth ∷ []
 abbrev pub rampedDown : List Event
 rampedDown = turned One ∷ write (pos 45) (pos 0x00) (pos 0) ∷ turned Two ∷ turned One ∷ []
 
+-- power at address 44; a spin-up of 2 clocks (0x20); 13 x 16 slots at Tmin (0x22); automatic and monitoring (0x00);
+-- remote 1 at 49 degrees, one above its Tmin: a target of 224 slots, and fan 1 starts
+abbrev pub heated : History
+heated =
+    sampled Remote1 (pos 392) ∷ write (pos 44) (pos 0x00) (pos 0x91) ∷ write (pos 44) (pos 0x22) (pos 0xDD)
+    ∷ write (pos 44) (pos 0x20) (pos 0x58) ∷ power (pos 44) (pos 0) (pos 0) ∷ []
+
+abbrev pub heatedFiltered : History
+heatedFiltered = write (pos 44) (pos 0x23) (pos 0x51) ∷ heated
+
+-- two periods, between which a sample takes the target to 232 slots; a period of the other fan and a refused event among them
+abbrev pub reached : List Event
+reached = turned One ∷ write (pos 45) (pos 0x00) (pos 0) ∷ turned Two ∷ sampled Remote1 (pos 396) ∷ turned One ∷ []
+
+-- then a sample takes the target to 216 slots; a third period
+abbrev pub followed : List Event
+followed = turned One ∷ sampled Remote1 (pos 388) ∷ reached
+
+-- then a sample takes the target to 238 slots; two periods, between which another takes it to 236
+abbrev pub raised : History
+raised = sampled Remote1 (pos 399) ∷ (followed ++ (spunUp ++ heatedFiltered))
+
+abbrev pub rampedUp : List Event
+rampedUp = turned One ∷ sampled Remote1 (pos 398) ∷ turned One ∷ []
+
 -- power at address 44 and monitoring (0x00); an offset of 15 degrees less for remote 1 (0x0E), of 15 more for local (0x0D)
 abbrev pub offsets : History
 offsets =
@@ -41,6 +66,33 @@ offsets =
 pub record Reads (c : ChannelId) (t reading : ℤ) : Type 0 where
   pub goes : accepted (sampled c t) offsets ≡ true
   pub then : temperature c (taken (sampled c t ∷ offsets)) ≡ reading
+
+-- the premises of T-13
+pub record MovingWitness : Type 0 where
+  -- a filtered fan: the target moves from 224 slots to 232 and to 216, the duty comes down from 240: a gap of 8 slots, three periods of 4
+  pub stretch : MovingStretch One 216 232 (followed ++ spunUp) heatedFiltered
+  pub ready : spinLeft One (spunUp ++ heatedFiltered) ≡ 0
+  pub filter : filtered One (taken (spunUp ++ heatedFiltered)) ≡ true
+  pub first : target One (taken (spunUp ++ heatedFiltered)) ≡ 224
+  pub last : target One (taken (followed ++ (spunUp ++ heatedFiltered))) ≡ 216
+  pub gap : outside 216 232 (duty One (taken (spunUp ++ heatedFiltered))) ≡ 8
+  pub periods : periodsIn One followed (spunUp ++ heatedFiltered) ≡ 3
+  pub ramp : rate (taken (spunUp ++ heatedFiltered)) ≡ 4
+  -- the first of them leaves the duty outside, the second takes it to the edge, and it stays inside when the target moves on
+  pub outer : shownDuty One (turned One ∷ (spunUp ++ heatedFiltered)) ≡ 236
+  pub edge : shownDuty One (reached ++ (spunUp ++ heatedFiltered)) ≡ 232
+  pub shown : shownDuty One (followed ++ (spunUp ++ heatedFiltered)) ≡ 228
+  -- from the other side: up from 228 to 236, in two periods
+  pub stretchUp : MovingStretch One 236 238 rampedUp raised
+  pub readyUp : spinLeft One raised ≡ 0
+  pub gapUp : outside 236 238 (duty One (taken raised)) ≡ 8
+  pub periodsUp : periodsIn One rampedUp raised ≡ 2
+  pub shownUp : shownDuty One (rampedUp ++ raised) ≡ 236
+  -- an unfiltered fan
+  pub stretchFlat : MovingStretch One 216 232 (followed ++ spunUp) heated
+  pub readyFlat : spinLeft One (spunUp ++ heated) ≡ 0
+  pub unfiltered : filtered One (taken (spunUp ++ heated)) ≡ false
+  pub shownFlat : shownDuty One (followed ++ (spunUp ++ heated)) ≡ 216
 
 pub record Witness : Type 0 where
   -- a filtered fan: a stretch at 80 slots, begun at 240, and two periods of 4 slots
@@ -62,6 +114,8 @@ pub record Witness : Type 0 where
   pub on : enabled Two (taken (pulledLow ∷ started)) ≡ true
   pub over : overridden (taken (pulledLow ∷ started)) ≡ true
   pub full : shownDuty Two (pulledLow ∷ started) ≡ 240
+  -- a target that moves
+  pub moving : MovingWitness
   -- samples under an offset: added, subtracted, held above, held below
   pub added : Reads Local (pos 160) (pos 280)
   pub subtracted : Reads Remote1 (pos 160) (pos 40)

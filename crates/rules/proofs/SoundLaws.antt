@@ -51,7 +51,7 @@ wanted f d = enabled f d && (ltb 0 (target f d) || overridden d)
 pub aimed : (f : FanId) (d : Taken) → wanted f d ≡ true → overridden d ≡ false → 0 < target f d
 aimed f d y o = ltb-true 0 (target f d) (simp (o, or-false) at (both (enabled f d) _ y .1))
 
-wants : (f : FanId) (d : Taken) → enabled f d ≡ true → 0 < target f d → wanted f d ≡ true
+pub wants : (f : FanId) (d : Taken) → enabled f d ≡ true → 0 < target f d → wanted f d ≡ true
 wants f d on t = simp (on, lt-ltb 0 (target f d) t)
 
 -- what holds of every fan after every list

@@ -1,5 +1,5 @@
 use native.Mathlib.Omega.{arith}
-use Rattle.drive.proofs.RampLaws.{nearer-is}
+use Rattle.rules.proofs.SoundLaws.{nearer-is}
 use borrow.Author.Needs.{needs}
 use Rattle.drive.proofs.nearer.Statement.{statement}
 use Rattle.drive.proofs.nearer.Tie as tie
