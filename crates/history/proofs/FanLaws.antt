@@ -76,7 +76,7 @@ module _ (f : FanId) (e : Event) (d : Taken) (w : Spin) where
   unfolding dutyAfter dutyOf settingBy
   duty-is spinning was = refl
 
-  pub spin-driven : driveBy (spinAfter f e d w) ≡ drivenOf (settingBy f (e ∷ d)) (fanInputOf f (failedIn f e d w) (inputOf e)) (driveBy w)
+  spin-driven : driveBy (spinAfter f e d w) ≡ drivenOf (settingBy f (e ∷ d)) (fanInputOf f (failedIn f e d w) (inputOf e)) (driveBy w)
   unfolding spinAfter drivenOf
   spin-driven = rw (← left-after, period-is f e, ← duty-is) (at-drive _ _ _)
 
