@@ -17,7 +17,7 @@ use Rattle.rules.specs.Replies.{lowest, replyTo, History, taken}
 use Rattle.rules.specs.Offsets.{measuredZ}
 use Rattle.rules.specs.Temperatures.{temperature, latch, thermAsserted}
 use Rattle.rules.specs.Targets.{rangeOf, flag, demand, assignedBy, targetOf, target, overridden}
-use Rattle.rules.specs.Duties.{enabled, rateOf, spinUpOf, nearer, dutyAfter, spinAfter, spin, duty, failed}
+use Rattle.rules.specs.Duties.{enabled, rateOf, spinUpOf, nearer, dutyAfter, spinAfter, spin, duty, judged, failed, failures}
 use Rattle.rules.specs.PageWords.{turned, pulledLow}
 use Rattle.drive.specs.Ramp.{outside}
 use Rattle.history.specs.Demand3.{periodsIn, disturbs, Stretch}
@@ -56,7 +56,7 @@ standing f d s h y = still.stretch f d s h (moving f d d s h y)
 pub witness : Witness
 unfolding stretches aims disturbs periodsIn outside taken replyTo lowest rangesOf existsAt readOnlyAt maskAt resetAt says table powered ownAddress
     storedAt pointer pinLow temperature latch thermAsserted flag demand assignedBy targetOf target overridden rateOf spinUpOf nearer dutyAfter spinAfter spin
-    duty failed mergedOf rangeOf measuredZ
+    duty judged failed failures mergedOf rangeOf measuredZ
 witness =
     record {
       stretch = standing One 80 (rampedDown ++ spunUp) startedFiltered refl;
@@ -77,6 +77,7 @@ witness =
       moving =
           record {
             stretch = moving One 216 232 (followed ++ spunUp) heatedFiltered refl;
+            spin = refl;
             ready = refl;
             filter = refl;
             first = refl;
@@ -87,6 +88,7 @@ witness =
             outer = shown-is One (turned One ∷ (spunUp ++ heatedFiltered));
             edge = shown-is One (reached ++ (spunUp ++ heatedFiltered));
             shown = shown-is One (followed ++ (spunUp ++ heatedFiltered));
+            failure = refl;
             stretchUp = moving One 236 238 rampedUp raised refl;
             readyUp = refl;
             gapUp = refl;

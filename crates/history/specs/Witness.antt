@@ -10,8 +10,8 @@ use Rattle.event.specs.declared.Event.{Event}
 use Rattle.rules.specs.Replies.{History, taken, accepted}
 use Rattle.rules.specs.Temperatures.{temperature}
 use Rattle.rules.specs.Targets.{target, overridden}
-use Rattle.rules.specs.Duties.{enabled, filtered, rate, duty}
-use Rattle.rules.specs.PageWords.{power, write, sampled, turned, pulledLow, tenth}
+use Rattle.rules.specs.Duties.{enabled, filtered, rate, duty, failures}
+use Rattle.rules.specs.PageWords.{power, write, point, read, sampled, counted, turned, pulledLow, letGo, tenth}
 use Rattle.drive.specs.Ramp.{outside}
 use Rattle.history.specs.Demand3.{shownDuty, spinLeft, periodsIn, Stretch}
 use Rattle.history.specs.MovingTarget.{MovingStretch}
@@ -24,26 +24,34 @@ started = write (pos 44) (pos 0x00) (pos 0x10) ∷ write (pos 44) (pos 0x20) (po
 abbrev pub startedFiltered : History
 startedFiltered = write (pos 44) (pos 0x23) (pos 0x51) ∷ started
 
--- the clocks of the spin-up; then two periods, among them a refused event and one of the other fan
+-- the clocks of the spin-up
 abbrev pub spunUp : List Event
 spunUp = tenth ∷ tenth ∷ []
 
-abbrev pub rampedDown : List Event
-rampedDown = turned One ∷ write (pos 45) (pos 0x00) (pos 0) ∷ turned Two ∷ turned One ∷ []
+-- what a stretch of fan 1 may hold: a read of a status register, a count of each fan, the pin let go, a sample of another channel, a period of the other
+-- fan; and a write and a power that are refused
+abbrev pub passing : List Event
+passing =
+    read (pos 44) (pos 0) (pos 0) ∷ point (pos 44) (pos 0x02) (pos 0) ∷ counted Two (pos 200) ∷ counted One (pos 100) ∷ letGo ∷ sampled Local (pos 160)
+    ∷ turned Two ∷ write (pos 45) (pos 0x00) (pos 0) ∷ power (pos 47) (pos 0) (pos 0) ∷ []
 
--- power at address 44; a spin-up of 2 clocks (0x20); 13 x 16 slots at Tmin (0x22); automatic and monitoring (0x00);
--- remote 1 at 49 degrees, one above its Tmin: a target of 224 slots, and fan 1 starts
+-- two periods, and all that between them
+abbrev pub rampedDown : List Event
+rampedDown = turned One ∷ (passing ++ (turned One ∷ []))
+
+-- power at address 44; spin-ups of 2 clocks (0x20, 0x21); counts of fan 2 fail above 100 (0x11); 13 x 16 slots at Tmin (0x22); automatic, monitoring, and
+-- remote 1 to both fans (0x00); remote 1 at 49 degrees, one above its Tmin: a target of 224 slots, and the fans start
 abbrev pub heated : History
 heated =
-    sampled Remote1 (pos 392) ∷ write (pos 44) (pos 0x00) (pos 0x91) ∷ write (pos 44) (pos 0x22) (pos 0xDD)
-    ∷ write (pos 44) (pos 0x20) (pos 0x58) ∷ power (pos 44) (pos 0) (pos 0) ∷ []
+    sampled Remote1 (pos 392) ∷ write (pos 44) (pos 0x00) (pos 0xB1) ∷ write (pos 44) (pos 0x22) (pos 0xDD) ∷ write (pos 44) (pos 0x11) (pos 100)
+    ∷ write (pos 44) (pos 0x21) (pos 0x58) ∷ write (pos 44) (pos 0x20) (pos 0x58) ∷ power (pos 44) (pos 0) (pos 0) ∷ []
 
 abbrev pub heatedFiltered : History
 heatedFiltered = write (pos 44) (pos 0x23) (pos 0x51) ∷ heated
 
--- two periods, between which a sample takes the target to 232 slots; a period of the other fan and a refused event among them
+-- two periods; between them a sample takes the target to 232 slots, and all that a stretch may hold happens
 abbrev pub reached : List Event
-reached = turned One ∷ write (pos 45) (pos 0x00) (pos 0) ∷ turned Two ∷ sampled Remote1 (pos 396) ∷ turned One ∷ []
+reached = turned One ∷ (passing ++ (sampled Remote1 (pos 396) ∷ turned One ∷ []))
 
 -- then a sample takes the target to 216 slots; a third period
 abbrev pub followed : List Event
@@ -71,6 +79,7 @@ pub record Reads (c : ChannelId) (t reading : ℤ) : Type 0 where
 pub record MovingWitness : Type 0 where
   -- a filtered fan: the target moves from 224 slots to 232 and to 216, the duty comes down from 240: a gap of 8 slots, three periods of 4
   pub stretch : MovingStretch One 216 232 (followed ++ spunUp) heatedFiltered
+  pub spin : spinLeft One heatedFiltered ≡ 2
   pub ready : spinLeft One (spunUp ++ heatedFiltered) ≡ 0
   pub filter : filtered One (taken (spunUp ++ heatedFiltered)) ≡ true
   pub first : target One (taken (spunUp ++ heatedFiltered)) ≡ 224
@@ -82,6 +91,8 @@ pub record MovingWitness : Type 0 where
   pub outer : shownDuty One (turned One ∷ (spunUp ++ heatedFiltered)) ≡ 236
   pub edge : shownDuty One (reached ++ (spunUp ++ heatedFiltered)) ≡ 232
   pub shown : shownDuty One (followed ++ (spunUp ++ heatedFiltered)) ≡ 228
+  -- a measurement of the other fan failed meanwhile
+  pub failure : failures Two (taken (reached ++ (spunUp ++ heatedFiltered))) ≡ 1
   -- from the other side: up from 228 to 236, in two periods
   pub stretchUp : MovingStretch One 236 238 rampedUp raised
   pub readyUp : spinLeft One raised ≡ 0
