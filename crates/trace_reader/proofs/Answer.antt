@@ -27,7 +27,7 @@ use Rattle.line.specs.Line.{lineAt, startOf, IsPart}
 use Rattle.trace.specs.Trace.{eventAt}
 use Rattle.trace.proofs.Reading as S
 use Rattle.trace.proofs.Reading.Laws as S′
-use Rattle.trace_reader.proofs.Told.{Telling}
+use Rattle.walk.proofs.Told.{Telling}
 use Rattle.trace_reader.proofs.TraceReader as T
 use Rattle.trace_reader.proofs.TraceReader.Laws as T′
 

@@ -1,4 +1,3 @@
 pub mod Answer
-pub mod Told
 pub mod Thin
 pub mod Through

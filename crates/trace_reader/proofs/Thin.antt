@@ -39,7 +39,7 @@ use denote.Exit.{yes}
 use denote.Triple.Clauses.{closing}
 use Rattle.trace_reader.specs.declared.TraceReader.{TraceReader}
 use Rattle.trace_reader.proofs.TraceReader.Laws as T′
-use Rattle.trace_reader.proofs.Told.{Telling, Promise, Gives, promising, tells, Tells, calls-told, keeps}
+use Rattle.walk.proofs.Told.{Telling, Promise, Gives, promising, tells, Tells, calls-told, keeps}
 use Rattle.trace_reader.proofs.Answer.{Answer, B, D, L, slice, by-place, by-reader}
 
 module _ (answer : Answer) (callee : Name) where

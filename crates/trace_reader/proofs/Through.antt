@@ -41,7 +41,7 @@ use Rattle.trace_reader.proofs.TraceReader as T
 use Rattle.trace_reader.proofs.TraceReader.Laws as T′
 use Rattle.trace_reader.proofs.new.Symbol.{name as #new}
 use Rattle.trace_reader.proofs.moved.Symbol.{name as #moved}
-use Rattle.trace_reader.proofs.Told.{Telling, Promise, Gives, promising, tells, Tells, calls-told, keeps}
+use Rattle.walk.proofs.Told.{Telling, Promise, Gives, promising, tells, Tells, calls-told, keeps}
 use Rattle.trace_reader.proofs.Answer.{Answer, B, slice, making, moving, by-place, by-reader}
 
 module _ (answer : Answer) (asked : Name) where

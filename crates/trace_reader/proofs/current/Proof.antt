@@ -7,7 +7,7 @@ use denote.Triple.Table.{entered, cited}
 use Rattle.line.proofs.line_at.Symbol as step
 use Rattle.line.proofs.line_at.Met as step-thm
 use Rattle.trace_reader.proofs.Answer.{part, by-place}
-use Rattle.trace_reader.proofs.Told.{Tells}
+use Rattle.walk.proofs.Told.{Tells}
 use Rattle.trace_reader.proofs.Thin.{thin-meets}
 use Rattle.trace_reader.proofs.current.Key.{name as #trace-reader·current}
 use Rattle.trace_reader.proofs.current as current

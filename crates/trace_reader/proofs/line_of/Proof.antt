@@ -5,7 +5,7 @@ use contract.Running.{givenOf, tables, tablesOf}
 use denote.Triple.Spec.{tripleOf}
 use denote.Triple.Table.{entered, cited}
 use Rattle.trace_reader.proofs.Answer.{part, making, moving, by-reader}
-use Rattle.trace_reader.proofs.Told.{Tells}
+use Rattle.walk.proofs.Told.{Tells}
 use Rattle.trace_reader.proofs.Through.{through-meets}
 use Rattle.trace_reader.proofs.new.Symbol as new
 use Rattle.trace_reader.proofs.new.Met as new-thm

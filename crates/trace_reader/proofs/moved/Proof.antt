@@ -34,7 +34,7 @@ use denote.Exit.{yes}
 use Rattle.trace_reader.specs.declared.TraceReader.{TraceReader}
 use Rattle.trace_reader.proofs.TraceReader.Laws as T′
 use Rattle.trace_reader.proofs.Answer.{B, D, L, moving}
-use Rattle.trace_reader.proofs.Told.{tells, keeps}
+use Rattle.walk.proofs.Told.{tells, keeps}
 use Rattle.trace_reader.proofs.moved.Key.{name as #trace-reader·moved}
 use Rattle.trace_reader.proofs.moved as moved
 use Rattle.trace_reader.proofs.moved.Statement as stated

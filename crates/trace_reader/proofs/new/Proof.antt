@@ -36,7 +36,7 @@ use denote.Exit.{yes}
 use Rattle.trace_reader.specs.declared.TraceReader.{TraceReader}
 use Rattle.trace_reader.proofs.TraceReader.Laws as T′
 use Rattle.trace_reader.proofs.Answer.{D, L, slice, making}
-use Rattle.trace_reader.proofs.Told.{tells, keeps}
+use Rattle.walk.proofs.Told.{tells, keeps}
 use Rattle.trace_reader.proofs.new.Key.{name as #trace-reader·new}
 use Rattle.trace_reader.proofs.new as new
 use Rattle.trace_reader.proofs.new.Statement as stated

@@ -7,7 +7,7 @@ use denote.Triple.Table.{entered, cited}
 use Rattle.trace.proofs.event_at.Symbol as step
 use Rattle.trace.proofs.event_at.Met as step-thm
 use Rattle.trace_reader.proofs.Answer.{reading, by-place}
-use Rattle.trace_reader.proofs.Told.{Tells}
+use Rattle.walk.proofs.Told.{Tells}
 use Rattle.trace_reader.proofs.Thin.{thin-meets}
 use Rattle.trace_reader.proofs.next.Key.{name as #trace-reader·next}
 use Rattle.trace_reader.proofs.next as next
