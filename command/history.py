@@ -6,7 +6,7 @@ from command.registers import (CHARACTERISTICS, CONFIG2, HIGH, LOW, OFFSETS, REG
                                channel_enabled, degrees, offset_degrees, tach_enabled)
 
 # what: refused, power, reset, status (part: register, value: byte), high, low (channel, limit), over (fan, count), failed (fan, count),
-# offset (channel, degrees: at a sample, other than 0)
+# offset (channel, degrees: at a sample, other than 0), alert (value: whether it lets INT go)
 Mark = collections.namedtuple("Mark", "what part value", defaults=(None, None))
 AFTER_POWER = {address: register.reset for address, register in REGISTERS.items()}
 RELEASE = 5  # degrees under its limit, where a THERM latch lets go
@@ -16,7 +16,7 @@ LEAST, MOST = -1024, (1022, 1023, 1023)  # readings of the channels, in eighths;
 @dataclasses.dataclass(frozen=True)
 class Chip:
     """Readings are in eighths, None before the first sample; samples those they were made of, None where no offset stood at them;
-    spins are the clock events that remain of the spin-ups."""
+    asserted is INT; spins are the clock events that remain of the spin-ups."""
 
     registers: dict = dataclasses.field(default_factory=lambda: AFTER_POWER)
     pointer: int = 0
@@ -24,6 +24,7 @@ class Chip:
     samples: tuple = (None, None, None)
     latches: tuple = (False, False, False)
     pin_low: bool = False
+    asserted: bool = False
     duties: tuple = (0, 0)
     spins: tuple = (0, 0)
     clocks: int = 0
@@ -92,6 +93,7 @@ ACCEPTED = {
     "pin": lambda chip, event: dataclasses.replace(chip, pin_low=event.val == 0),
     "clock": lambda chip, event: dataclasses.replace(chip, clocks=chip.clocks + 1),
     "period": lambda chip, event: chip,
+    "alert": lambda chip, event: dataclasses.replace(chip, marks=(Mark("alert", value=chip.asserted),)),
 }
 
 
@@ -112,7 +114,7 @@ def after(chip, event, shown):
     marks = (Mark("status", chip.pointer, shown.data),) if event.kind == "read" and chip.pointer in STATUS else moved.marks
     duties = (shown.duty1, shown.duty2)
     spins = tuple(spin_after(moved, event, fan, duty) for fan, duty in enumerate(duties))
-    return dataclasses.replace(moved, duties=duties, spins=spins, marks=marks)
+    return dataclasses.replace(moved, asserted=bool(shown.int), duties=duties, spins=spins, marks=marks)
 
 
 def follow(case):

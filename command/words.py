@@ -1,9 +1,10 @@
 """Events and answers in the words of the trade."""
+from command.history import Mark
 from command.registers import CHANNELS, LIMITS, OFFSETS, REGISTERS, degrees, offset_degrees
 from command.trace import in_range
 
-NOT_OURS = 2  # the reply to a bus event for another address
-REPLIES = {
+NOT_OURS = 2  # the reply to a bus event or an alert for another address
+REPLIES = {  # to an event; 10 and 11 are given to a text, 12 to a row of alert entries
     0: "done",
     1: "no power yet",
     2: "not our address",
@@ -66,6 +67,14 @@ def sample(event, shown, chip):
     return f"sample {CHANNELS[event.who]} {celsius(event.val / 8)}{reads}"
 
 
+def alert(event, shown, chip):
+    if shown.answer == NOT_OURS:
+        return f"alert for {event.who}"
+    if shown.answer:
+        return "alert"
+    return "alert, INT let go" if Mark("alert", value=True) in chip.marks else "alert, INT not asserted"
+
+
 WORDS = {
     "power": power,
     "write": write,
@@ -76,6 +85,7 @@ WORDS = {
     "pin": lambda event, shown, chip: f"pin {'high' if event.val else 'low'}",
     "clock": lambda event, shown, chip: "clock 0.1 s",
     "period": lambda event, shown, chip: f"period fan {event.who}",
+    "alert": alert,
 }
 
 

@@ -1,9 +1,21 @@
-/* A keeper in a C program: power on, watch the local channel, heat it past its THERM limit of 70 degrees, read the status. */
+/* A keeper in a C program: power on, watch the local channel, heat it past its THERM limit of 70 degrees, read the status.
+   Then three keepers on one alert line, two of which pull it: who answers, until nobody does. */
 #include <stdio.h>
 
 #include "snezhulka.h"
 
 enum { POWER, WRITE, POINT, READ, SAMPLE };
+
+/* Asks at the alert response address, 0x0C; says the answer, and each keeper with 1 while it pulls the line. */
+static uint8_t ask(struct snezhulka_alert_entry *row, size_t count) {
+    uint8_t data = 0;
+    uint8_t answer = snezhulka_alert(row, count, &data);
+    printf("answer %d data %d row", answer, data);
+    for (size_t i = 0; i < count; i++)
+        printf(" %d:%d", row[i].address, row[i].asserting);
+    printf("\n");
+    return answer;
+}
 
 int main(void) {
     const int32_t events[][4] = {
@@ -17,5 +29,9 @@ int main(void) {
     for (size_t i = 0; i < end / 7; i++)
         printf("answer %d data %d therm %d duties %d %d\n", outcomes[i][0], outcomes[i][1], outcomes[i][3], outcomes[i][5],
                outcomes[i][6]);
+    struct snezhulka_alert_entry row[] = {{46, true}, {44, false}, {45, true}};
+    while (ask(row, sizeof row / sizeof *row) == 0) {
+        /* here the keeper that answered is given the event alert */
+    }
     return 0;
 }

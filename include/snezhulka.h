@@ -3,6 +3,7 @@
 #ifndef SNEZHULKA_H
 #define SNEZHULKA_H
 
+#include <stdbool.h>
 #include <stddef.h>
 #include <stdint.h>
 
@@ -18,7 +19,7 @@ extern "C" {
    3 bytes for each byte of text, and 26 more, are always enough. */
 size_t snezhulka_replay(const uint8_t *text, size_t text_len, uint8_t *report, size_t report_len);
 
-/* Steps a keeper that never had power through a list of events, four numbers each: the kind from 0 (power) to 8 (period) in
+/* Steps a keeper that never had power through a list of events, four numbers each: the kind from 0 (power) to 9 (alert) in
    the order of the trace format, who, arg, val. Puts seven bytes for each event into `outcomes`: answer, data, int, therm,
    fault, duty1, duty2. Gives how many bytes those are; the events end before the first that has another kind.
    `count` is the number of numbers; `outcomes` must have room for the outcomes of all events. */
@@ -38,6 +39,19 @@ size_t snezhulka_rewrite(const uint8_t *text, size_t text_len, uint8_t *copy, si
 /* Puts the first wrong line of a trace text, without its newline, into `line`, from its start, and gives its length: 0 where
    no line is wrong, or the wrong one is empty or missing. The other bytes of `line` are as they were. */
 size_t snezhulka_wrong_line(const uint8_t *text, size_t text_len, uint8_t *line, size_t line_len);
+
+/* A keeper on a shared alert line: its address, 44 to 46, and whether it asserts the line. */
+struct snezhulka_alert_entry {
+    uint8_t address;
+    bool asserting;
+};
+
+/* Answers a read of the SMBus alert response address, 0x0C: looks through a row of keepers for the lowest address that
+   asserts the line. Gives the reply number: 0; 6 where an address is outside 44 to 46; else 12 where no entry asserts, also
+   where there is none, or two have one address, asserting or not. With 0 that address is in `*data` and its entry asserts no
+   more; give that keeper the event alert. The other entries are as they were, and but for 0 so are all of them and `*data`.
+   `count` is the number of entries. */
+uint8_t snezhulka_alert(struct snezhulka_alert_entry *row, size_t count, uint8_t *data);
 
 #ifdef __cplusplus
 }

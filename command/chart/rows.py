@@ -85,6 +85,8 @@ def mark_rows(plot, top, chips):
         rows.append((f"status{place}", f"0x{address:02X} read", reads))
     rows.append(("refused", "refused", [Marked(n, str(m.value)) for n, m in marks if m.what == "refused"]))
     rows.append(("start", "power, reset", [Marked(n) for n, m in marks if m.what in ("power", "reset")]))
+    alerts = [Marked(n) for n, m in marks if m.what == "alert"]
+    rows += [("alert", "alerts", alerts)] * bool(alerts)
     legend = "status reads with the byte handed out; refused events with the number of the reply"
     elements = [words_at(LEFT, top, "Events", "heading", legend)]
     top += HEADING

@@ -1,8 +1,8 @@
--- Document 01, "The reply numbers": the number and the data of each answer.
+-- Document 01, "The reply numbers": the number and the data of each answer. 12 is T-02's, of document 02.
 use Prim.Native.Nat.{ℕ}
 use Rattle.event.specs.declared.Refusal.{Refusal}
 use Rattle.event.specs.declared.Refusal.the-variants.{NoPower, OtherAddress, NoSuchPart, NoSuchRegister, ReadOnly, OutOfRange, BadRangeCode, OddLocal}
-use Rattle.event.specs.declared.Refusal.the-variants.{NotMonitoring, Malformed, WrongSize}
+use Rattle.event.specs.declared.Refusal.the-variants.{NotMonitoring, Malformed, WrongSize, NoAlert}
 use Rattle.event.specs.declared.Answer.{Answer}
 use Rattle.event.specs.declared.Answer.the-variants.{Done, Refused}
 
@@ -18,6 +18,7 @@ refusalNumber OddLocal = 8
 refusalNumber NotMonitoring = 9
 refusalNumber Malformed = 10
 refusalNumber WrongSize = 11
+refusalNumber NoAlert = 12
 
 abbrev pub numberOf : Answer → ℕ
 numberOf (Done d) = 0

@@ -26,9 +26,10 @@ pub enum Event {
     Pin(Numbers),
     Clock(Numbers),
     Period(Numbers),
+    Alert(Numbers),
 }
 
-// The kinds of document 01's table, in its order.
+// The kinds of document 01's table, in its order, and those of document 02 behind them.
 pub enum Kind {
     Power,
     Write,
@@ -39,6 +40,7 @@ pub enum Kind {
     Pin,
     Clock,
     Period,
+    Alert,
 }
 
 fn transfer_kind(t: Transfer) -> Kind
@@ -62,6 +64,7 @@ pub fn kind_of(e: Event) -> Kind
         Event::Pin(_) => Kind::Pin,
         Event::Clock(_) => Kind::Clock,
         Event::Period(_) => Kind::Period,
+        Event::Alert(_) => Kind::Alert,
     }
 }
 
@@ -86,6 +89,7 @@ pub fn numbers_of(e: Event) -> Numbers
         Event::Pin(n) => n,
         Event::Clock(n) => n,
         Event::Period(n) => n,
+        Event::Alert(n) => n,
     }
 }
 
@@ -103,6 +107,7 @@ fn of_kind(k: Kind, n: Numbers) -> Event
         Kind::Pin => Event::Pin(n),
         Kind::Clock => Event::Clock(n),
         Kind::Period => Event::Period(n),
+        Kind::Alert => Event::Alert(n),
     }
 }
 
@@ -126,12 +131,13 @@ pub fn place_of(k: Kind) -> u8
         Kind::Pin => 6,
         Kind::Clock => 7,
         Kind::Period => 8,
+        Kind::Alert => 9,
     }
 }
 
-pub const KIND_COUNT: u16 = 9;
+pub const KIND_COUNT: u16 = 10;
 
-const KINDS: [Kind; 9] = [
+const KINDS: [Kind; 10] = [
     Kind::Power,
     Kind::Write,
     Kind::Point,
@@ -141,6 +147,7 @@ const KINDS: [Kind; 9] = [
     Kind::Pin,
     Kind::Clock,
     Kind::Period,
+    Kind::Alert,
 ];
 
 // The kind at a place of the table; the first one past its end.
@@ -153,7 +160,7 @@ pub fn kind_at(place: u16) -> Kind
     KINDS[place as usize]
 }
 
-// Why an event, an image or a text is refused: the replies of document 01 from 1, in their order.
+// Why an event, an image, a text or a row of alert entries is refused: the replies from 1, in their order.
 pub enum Refusal {
     NoPower,
     OtherAddress,
@@ -166,9 +173,10 @@ pub enum Refusal {
     NotMonitoring,
     Malformed,
     WrongSize,
+    NoAlert,
 }
 
-// What an event, an image or a text is answered: done, with data that only a read hands out, or a refusal.
+// What any of them is answered: done, with data that only a read and a row hand out, or a refusal.
 pub enum Answer {
     Done(u8),
     Refused(Refusal),
@@ -189,6 +197,7 @@ pub fn refusal_number(r: Refusal) -> u8
         Refusal::NotMonitoring => 9,
         Refusal::Malformed => 10,
         Refusal::WrongSize => 11,
+        Refusal::NoAlert => 12,
     }
 }
 
@@ -217,4 +226,11 @@ pub struct Shown {
     pub fault: u8,
     pub duty1: u8,
     pub duty2: u8,
+}
+
+// A keeper on the alert line (T-02 of document 02): its address, and whether it asserts the line.
+#[repr(C)]
+pub struct AlertEntry {
+    pub address: u8,
+    pub asserting: bool,
 }

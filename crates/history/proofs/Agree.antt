@@ -25,6 +25,7 @@ use Rattle.rules.specs.Duties.{spin, duty, failures, atAlarm, alarmBit, faultBi
 use Rattle.rules.specs.Shows as shows
 use Rattle.input.specs.Inputs.{plainOf, inputOf}
 use Rattle.judge.specs.Judged.{lowestIn}
+use Rattle.judge.specs.declared.Standing.{Standing}
 use Rattle.judge.proofs.RightLaws.{right}
 use Rattle.stored.specs.declared.Registers.{Registers}
 use Rattle.channel.specs.declared.Channels.{Channels}
@@ -32,18 +33,22 @@ use Rattle.fan.specs.declared.Fan.{Fan}
 use Rattle.chip.specs.Chips.{chipWith, chipUnder, chipAfter}
 use Rattle.chip.specs.declared.Port.{Port}
 use Rattle.chip.specs.declared.Chip.{Chip}
+use Rattle.device.specs.Devices.{deviceAfter}
+use Rattle.device.specs.declared.Device.{Device}
 use Rattle.keeper.specs.Keeping as keeping
-use Rattle.keeper.specs.Keeping.{isOn, chipIn, standingOf, outcomeOf, shownBy}
+use Rattle.keeper.specs.Keeping.{isOn, deviceIn, standingOf, outcomeOf, shownBy}
 use Rattle.keeper.specs.declared.Keeper.{Keeper}
 use Rattle.keeper.specs.declared.Keeper.the-variants.{Off, On}
 use Rattle.keeper.specs.declared.Outcome.{Outcome}
 use Rattle.history.specs.Agreement.{run, Agreement}
-use Rattle.history.proofs.State.{portBy, channelRegistersBy, fanRegistersBy, registersBy, contextBy, channelBy, channelsBy, fanBy, chipBy, stateBy}
+use Rattle.history.proofs.State.{portBy, channelRegistersBy, fanRegistersBy, registersBy, contextBy, channelBy, channelsBy, fanBy, chipBy}
+use Rattle.history.proofs.State.{deviceBy, stateBy}
 use Rattle.rules.proofs.TakenLaws.{Took, none, more, took, went, on-after, off-none, own-small}
 use Rattle.rules.proofs.StoredLaws.{byte}
+use Rattle.history.proofs.AcceptedLaws.{restart-is}
 use Rattle.history.proofs.StepLaws.{where-on, port-is, registers-is, channels-is}
 use Rattle.history.proofs.FanLaws.{fan-is}
-use Rattle.history.proofs.ValueLaws.{value-is, shown-on}
+use Rattle.history.proofs.ValueLaws.{value-is, due-is, shown-on, status-is}
 
 -- ---- one event
 
@@ -56,15 +61,22 @@ module _ (e : Event) (d : Taken) (fine : replies.outOfRange e ≡ false) (small 
   unfolding chipAfter chipUnder chipBy portBy
   chip-is = rw (registers-is e d fine, channels-is e d fine small, port-is e d fine) with-is
 
+  -- INT's line too
+  device-is : deviceAfter (inputOf e) (deviceBy d) ≡ deviceBy (e ∷ d)
+  unfolding deviceAfter deviceBy shows.silenced
+  device-is =
+      rw (chip-is, restart-is e fine, status-is One d, status-is Two d, status-is One (e ∷ d), status-is Two (e ∷ d), due-is d)
+
 -- ---- the keeper
 
--- a keeper that never had power has the chip of the empty list
-pub chip-in : {d : Taken} → Took d → chipIn (stateBy d) ≡ chipBy d
-chip-in none =
-    (unfold stateBy powered chipBy portBy registersBy channelRegistersBy fanRegistersBy channelsBy channelBy fanBy ownAddress storedAt pointer pinLow
-    diodeError pulledBit temperature latch flag highBit lowBit thermBit eighthsOf spin failures atAlarm overridden thermAsserted alarmBit faultBit in
+-- a keeper that never had power has the device of the empty list
+device-in : {d : Taken} → Took d → deviceIn (stateBy d) ≡ deviceBy d
+device-in none =
+    (unfold stateBy deviceBy shows.silenced powered chipBy portBy registersBy channelRegistersBy fanRegistersBy channelsBy channelBy fanBy ownAddress
+    storedAt pointer pinLow diodeError pulledBit temperature latch flag highBit lowBit thermBit eighthsOf spin failures atAlarm overridden thermAsserted
+    alarmBit faultBit in
     refl)
-chip-in (more {e = e} {d = d} go t) = (unfold stateBy in rw (on-after e d go))
+device-in (more {e = e} {d = d} go t) = (unfold stateBy in rw (on-after e d go))
 
 is-on : (d : Taken) → isOn (stateBy d) ≡ powered d
 unfolding stateBy
@@ -72,8 +84,13 @@ is-on d = by-cases (powered d) (λ p. rw p) (λ p. rw p)
 
 -- the reply is that of the rules
 reply-is : (e : Event) {d : Taken} → Took d → lowestIn (standingOf (stateBy d)) (inputOf e) ≡ replyTo e d
-unfolding replyTo chipBy portBy registersBy
-reply-is e {d} t = rw (chip-in t, is-on d) (right _ e (omega (arith, own-small t)))
+unfolding replyTo deviceBy chipBy portBy registersBy
+reply-is e {d} t = ap (λ (s : Standing). lowestIn s (inputOf e)) standing-is ∙ right _ e (omega (arith, own-small t))
+  where
+    standing-is : standingOf (stateBy d) ≡ keeping.standingWith (powered d) (deviceBy d .chip)
+    standing-is =
+        ap (λ (x : Device). keeping.standingWith (isOn (stateBy d)) (x .chip)) (device-in t)
+        ∙ ap (λ (on : Bool). keeping.standingWith on (deviceBy d .chip)) (is-on d)
 
 -- a read is accepted only with power
 read-on : (e : Event) (d : Taken) → accepts (replyTo e d) ≡ true → isKind kind.Read e ≡ true → powered d ≡ true
@@ -88,24 +105,24 @@ data-is : (e : Event) {d : Taken} → Took d → accepts (replyTo e d) ≡ true
 unfolding chipBy portBy
 data-is e {d} t go = where-on (isKind kind.Read e) 0 (λ r. value-is t (read-on e d go r) (pointer d))
 
-moved : (e : Event) {d : Taken} → Took d → accepts (replyTo e d) ≡ true → chipAfter (inputOf e) (chipBy d) ≡ chipBy (e ∷ d)
-moved e {d} t go = let fine = went e d go .range in chip-is e d fine (λ a. byte a (more go t))
+moved : (e : Event) {d : Taken} → Took d → accepts (replyTo e d) ≡ true → deviceAfter (inputOf e) (deviceBy d) ≡ deviceBy (e ∷ d)
+moved e {d} t go = let fine = went e d go .range in device-is e d fine (λ a. byte a (more go t))
 
 zero-shown : shows.shown [] ≡ record { int = 0; therm = 0; fault = 0; duty1 = 0; duty2 = 0 }
-unfolding shows.shown shows.intAsserted shows.faultAsserted thermAsserted storedAt latch duty spin
+unfolding shows.shown shows.intAsserted shows.intDue shows.faultAsserted thermAsserted storedAt latch duty spin
 zero-shown = refl
 
 shows-is : {d : Taken} → Took d → shownBy (stateBy d) ≡ shows.shown d
-unfolding shownBy stateBy
+unfolding shownBy stateBy deviceBy
 shows-is {d} t = by-cases (powered d) (λ on. rw on (shown-on d)) (λ off. rw off (sym (ap shows.shown (off-none t off) ∙ zero-shown)))
 
 -- what an event is answered, what is shown after it, and the keeper then
 step-is : (e : Event) {d : Taken} → Took d → outcomeOf (stateBy d) e ≡ cond (accepts (replyTo e d))
     (record { keeper = stateBy (e ∷ d); answer = Done (cond (isKind kind.Read e) (shows.value (pointer d) d) 0); shown = shows.shown (e ∷ d) })
     (record { keeper = stateBy d; answer = replyTo e d; shown = shows.shown d })
-unfolding outcomeOf
+unfolding outcomeOf deviceBy
 step-is e {d} t =
-    rw (reply-is e t, chip-in t)
+    rw (reply-is e t, device-in t)
     (by-cases (accepts (replyTo e d))
     (λ go. rw (go, data-is e t go, moved e t go, shown-on (e ∷ d)) (unfold stateBy in rw (on-after e d go)))
     (λ bad. rw (bad, shows-is t)))
@@ -118,6 +135,10 @@ agree [] = refl
 agree (e ∷ h) =
     ap (λ (k : Keeper). (outcomeOf k e) .keeper) (agree h) ∙ ap (λ (a : Outcome). a .keeper) (step-is e (took h))
     ∙ by-cases (accepts (replyTo e (taken h))) (λ go. rw go) (λ bad. rw bad)
+
+pub chip-run : (h : History) → keeping.chipIn (run h) ≡ chipBy (taken h)
+unfolding deviceBy
+chip-run h = ap keeping.chipIn (agree h) ∙ ap (λ (x : Device). x .chip) (device-in (took h))
 
 module _ (e : Event) (h : History) where
   answer-is : (outcomeOf (stateBy (taken h)) e) .answer ≡ shows.answer e h
@@ -138,11 +159,11 @@ values-is t on a zero = refl
 values-is t on a (suc n) = rw (value-is t on a, values-is t on (suc a) n)
 
 image-is : (d : Taken) (buffer : List ℕ) → keeping.imageAnswer (stateBy d) buffer ≡ shows.imageReply buffer d
-unfolding keeping.imageAnswer stateBy shows.imageReply
+unfolding keeping.imageAnswer stateBy deviceBy shows.imageReply
 image-is d buffer = by-cases (powered d) (λ on. rw on) (λ off. rw off)
 
 buffer-is : {d : Taken} → Took d → (buffer : List ℕ) → keeping.imageBuffer (stateBy d) buffer ≡ shows.imageHeld buffer d
-unfolding keeping.imageBuffer stateBy shows.imageHeld
+unfolding keeping.imageBuffer stateBy deviceBy shows.imageHeld
 buffer-is {d} t buffer = by-cases (powered d) (λ on. rw on (rw (values-is t on 0 64))) (λ off. rw off)
 
 pub agreement : (h : History) → Agreement h

@@ -1,27 +1,20 @@
 -- The engine's counts are those of the list. Assumes nothing.
 use Prim.Native.Nat.{min}
-use mathlib.Core.Path.{_≡_, refl, ap, _∙_}
+use mathlib.Core.Path.{_≡_, ap}
 use Rattle.part.specs.declared.FanId.{FanId}
 use Rattle.part.specs.declared.FanId.the-variants.{One, Two}
 use Rattle.rules.specs.Replies.{History, taken}
 use Rattle.rules.specs.Duties.{duty}
 use Rattle.fan.specs.declared.Fan.{Fan}
-use Rattle.keeper.specs.Keeping.{chipIn}
-use Rattle.keeper.specs.declared.Keeper.{Keeper}
 use Rattle.chip.specs.declared.Chip.{Chip}
-use Rattle.history.specs.Agreement.{run}
 use Rattle.history.specs.Counts.{fanIn, Counts}
-use Rattle.history.proofs.State.{fanBy, chipBy, stateBy}
-use Rattle.rules.proofs.TakenLaws.{took}
-use Rattle.history.proofs.Agree.{agree, chip-in}
-
-chip-is : (h : History) → chipIn (run h) ≡ chipBy (taken h)
-chip-is h = ap chipIn (agree h) ∙ chip-in (took h)
+use Rattle.history.proofs.State.{fanBy, chipBy}
+use Rattle.history.proofs.Agree.{chip-run}
 
 fan-is : (f : FanId) (h : History) → fanIn f h ≡ fanBy f (taken h)
 unfolding chipBy
-fan-is One h = ap (λ (c : Chip). c .fan1) (chip-is h)
-fan-is Two h = ap (λ (c : Chip). c .fan2) (chip-is h)
+fan-is One h = ap (λ (c : Chip). c .fan1) (chip-run h)
+fan-is Two h = ap (λ (c : Chip). c .fan2) (chip-run h)
 
 pub counts : (h : History) → Counts h
 unfolding fanBy duty

@@ -10,8 +10,10 @@ pub mod StretchLaws
 pub mod MovingTargetLaws
 pub mod StillTargetLaws
 pub mod Demand3Laws
+pub mod AlertsLaws
 pub mod BoundsLaws
 pub mod ReadbackLaws
 pub mod CountsLaws
+pub mod AlertWitnessLaws
 pub mod WitnessLaws
 pub mod Proved

@@ -7,6 +7,7 @@ use Rattle.history.proofs.Agree.{agreement}
 use Rattle.history.proofs.ReadbackLaws.{readback}
 use Rattle.history.proofs.MovingTargetLaws.{moving-target}
 use Rattle.history.proofs.Demand3Laws.{demand3}
+use Rattle.history.proofs.AlertsLaws.{alerts}
 use Rattle.history.proofs.CountsLaws.{counts}
 use Rattle.history.proofs.BoundsLaws.{bounds}
 use Rattle.history.proofs.WitnessLaws.{witness}
@@ -19,6 +20,7 @@ proved h =
       readback = readback h;
       demand3 = demand3 h;
       movingTarget = moving-target h;
+      alerts = alerts h;
       page = page h;
       counts = counts h;
       bounds = bounds h;

@@ -12,6 +12,7 @@ use Rattle.rules.specs.Stored.{Taken, powered, ownAddress, storedAt, pointer, p
 use Rattle.rules.specs.Temperatures.{temperature, latch, highBit, lowBit, thermBit}
 use Rattle.rules.specs.Targets.{flag, target, overridden}
 use Rattle.rules.specs.Duties.{enabled, filtered, rate, spinUpClocks, Spin, left, spin, failures, atAlarm, alarmBit, faultBit}
+use Rattle.rules.specs.Shows.{silenced}
 use Rattle.drive.specs.declared.Drive.{Drive}
 use Rattle.drive.specs.declared.Setting.{Setting}
 use Rattle.input.specs.Inputs.{eighthsHeld, inputOf}
@@ -24,6 +25,7 @@ use Rattle.channel.specs.declared.Channels.{Channels}
 use Rattle.fan.specs.declared.Fan.{Fan}
 use Rattle.chip.specs.declared.Port.{Port}
 use Rattle.chip.specs.declared.Chip.{Chip}
+use Rattle.device.specs.declared.Device.{Device}
 use Rattle.keeper.specs.declared.Keeper.{Keeper}
 use Rattle.keeper.specs.declared.Keeper.the-variants.{Off, On}
 
@@ -102,5 +104,8 @@ fanBy f d = record { drive = driveBy (spin f d); run = min 5 (failures f d); ala
 unfoldable pub chipBy : Taken → Chip
 chipBy d = record { port = portBy d; registers = registersBy d; channels = channelsBy d; fan1 = fanBy One d; fan2 = fanBy Two d }
 
+unfoldable pub deviceBy : Taken → Device
+deviceBy d = record { chip = chipBy d; silenced = silenced d }
+
 unfoldable pub stateBy : Taken → Keeper
-stateBy d = cond (powered d) (On (chipBy d)) Off
+stateBy d = cond (powered d) (On (deviceBy d)) Off

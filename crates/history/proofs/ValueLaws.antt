@@ -22,9 +22,9 @@ use Rattle.rules.specs.Events.{byteGiven, restarts, writes}
 use Rattle.rules.specs.Stored.{Taken, powered, counts, storedAt, diodeError, pulledBit}
 use Rattle.rules.specs.Temperatures.{thermAsserted, channelOn, highBit, lowBit, thermBit}
 use Rattle.rules.specs.Duties.{duty, failures, alarmBit, faultBit}
-use Rattle.rules.specs.Shows.{status, byteAt, value, pending, intAsserted, faultAsserted, shown}
+use Rattle.rules.specs.Shows.{status, byteAt, value, pending, intDue, silenced, intAsserted, faultAsserted, shown}
 use Rattle.stored.specs.Stored.{cells, found, storedIn}
-use Rattle.output.specs.Outputs.{statusOf, registerAt, intOf, faultOf, shownOf}
+use Rattle.output.specs.Outputs.{statusOf, registerAt, intDueOf, faultOf, shownOf}
 use Rattle.history.proofs.State.{portBy, channelRegistersBy, fanRegistersBy, registersBy, channelBy, channelsBy, fanBy, chipBy}
 use Rattle.rules.proofs.TakenLaws.{Took, none, more}
 use Rattle.history.proofs.HeldLaws.{stands}
@@ -104,9 +104,9 @@ value-is {d} t on a =
 -- ---- outputs
 
 -- INT: a bit of a status byte is set, bit 5 counting for an enabled channel
-pending-is : (d : Taken) → intOf (chipBy d) ≡ intAsserted d
-unfolding intOf intAsserted pending statusOf chipBy portBy fanBy registersBy channelsBy channelBy
-pending-is d = rw (pending-law, pending-law)
+pub due-is : (d : Taken) → intDueOf (chipBy d) ≡ intDue d
+unfolding intDueOf intDue pending statusOf chipBy portBy fanBy registersBy channelsBy channelBy
+due-is d = rw (pending-law, pending-law)
 
 -- a run held at 5 is 5 where five failures stand in a row
 five : (n : ℕ) → eqb (min 5 n) 5 ≡ leb 5 n
@@ -117,6 +117,12 @@ fault-is : (d : Taken) → faultOf (chipBy d) ≡ faultAsserted d
 unfolding faultOf faultAsserted chipBy fanBy registersBy
 fault-is d = rw (five (failures One d), five (failures Two d))
 
-pub shown-on : (d : Taken) → shownOf (chipBy d) ≡ shown d
-unfolding shownOf shown thermAsserted duty chipBy fanBy channelsBy channelBy
-shown-on d = rw (pending-is d, fault-is d)
+pub shown-on : (d : Taken) → shownOf (chipBy d) (silenced d) ≡ shown d
+unfolding shownOf shown intAsserted thermAsserted duty chipBy fanBy channelsBy channelBy
+shown-on d = rw (due-is d, fault-is d)
+
+-- the status registers
+pub status-is : (f : FanId) (d : Taken) → statusOf f (chipBy d) ≡ status f d
+unfolding statusOf status chipBy portBy fanBy channelsBy channelBy
+status-is One d = refl
+status-is Two d = refl

@@ -25,6 +25,7 @@ use Rattle.history.specs.MovingTarget.{Within, MovingStretch}
 use Rattle.history.specs.Witness.{started, startedFiltered, spunUp, rampedDown, heated, heatedFiltered, reached, followed, raised, rampedUp, Witness}
 use Rattle.history.proofs.MovingTargetLaws.{shown-is}
 use Rattle.history.proofs.StillTargetLaws as still
+use Rattle.history.proofs.AlertWitnessLaws.{alert-witness}
 
 -- a stretch by one test that computes
 aims : FanId → (a b : ℕ) → History → Bool
@@ -103,4 +104,5 @@ witness =
       subtracted = record { goes = refl; then = refl };
       above = record { goes = refl; then = refl };
       below = record { goes = refl; then = refl };
+      alerts = alert-witness;
     }

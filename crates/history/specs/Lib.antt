@@ -2,8 +2,10 @@ pub mod Agreement
 pub mod Demand1
 pub mod Demand3
 pub mod MovingTarget
+pub mod Alerts
 pub mod Bounds
 pub mod Readback
 pub mod Counts
+pub mod AlertWitness
 pub mod Witness
 pub mod Proved

@@ -10,6 +10,7 @@ use Rattle.history.specs.Agreement.{Agreement}
 use Rattle.history.specs.Readback.{Readback}
 use Rattle.history.specs.Demand3.{Demand3}
 use Rattle.history.specs.MovingTarget.{MovingTarget}
+use Rattle.history.specs.Alerts.{Alerts}
 use Rattle.history.specs.Counts.{Counts}
 use Rattle.history.specs.Bounds.{Bounds}
 use Rattle.history.specs.Witness.{Witness}
@@ -25,11 +26,13 @@ pub record Proved (h : History) : Type 0 where
   pub demand3 : Demand3 h
   -- T-13: the same of a target that moves in an interval; demand 3's stretch is the case of one slot
   pub movingTarget : MovingTarget h
-  -- the rules say what document 01, and T-01 of document 02, say, sentence by sentence
+  -- T-02: an alert lets INT go, and changes nothing else
+  pub alerts : Alerts h
+  -- the rules say what document 01, and T-01 and T-02 of document 02, say, sentence by sentence
   pub page : Page h
   -- the engine's counts are those taken from the list
   pub counts : Counts h
   -- every register value is a byte, and no duty is above 240 slots
   pub bounds : Bounds h
-  -- the premises of demand 3, of T-13 and of T-01's sentences can be met
+  -- the premises of demand 3, of T-13 and of the sentences of T-01 and T-02 can be met
   pub witness : Witness

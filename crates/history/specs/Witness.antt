@@ -1,4 +1,5 @@
--- Demand 3 and T-13 speak of something: lists whose stretch meets every premise, with a gap and periods above 0. So does T-01: samples under offsets.
+-- Demand 3 and T-13 speak of something: lists whose stretch meets every premise, with a gap and periods above 0. So do T-01: samples under offsets,
+-- and T-02: alerts.
 use mathlib.Core.Path.{_≡_}
 use mathlib.Core.Bool.{true, false}
 use mathlib.Core.List.{List, [], _∷_, _++_}
@@ -11,10 +12,11 @@ use Rattle.rules.specs.Replies.{History, taken, accepted}
 use Rattle.rules.specs.Temperatures.{temperature}
 use Rattle.rules.specs.Targets.{target, overridden}
 use Rattle.rules.specs.Duties.{enabled, filtered, rate, duty, failures}
-use Rattle.rules.specs.PageWords.{power, write, point, read, sampled, counted, turned, pulledLow, letGo, tenth}
+use Rattle.rules.specs.PageWords.{power, write, point, read, alert, sampled, counted, turned, pulledLow, letGo, tenth}
 use Rattle.drive.specs.Ramp.{outside}
 use Rattle.history.specs.Demand3.{shownDuty, spinLeft, periodsIn, Stretch}
 use Rattle.history.specs.MovingTarget.{MovingStretch}
+use Rattle.history.specs.AlertWitness.{AlertWitness}
 
 -- power at address 44; a spin-up of 2 clocks (0x20); manual setting of 5 x 16 slots (0x00): the fan starts
 abbrev pub started : History
@@ -28,12 +30,12 @@ startedFiltered = write (pos 44) (pos 0x23) (pos 0x51) ∷ started
 abbrev pub spunUp : List Event
 spunUp = tenth ∷ tenth ∷ []
 
--- what a stretch of fan 1 may hold: a read of a status register, a count of each fan, the pin let go, a sample of another channel, a period of the other
--- fan; and a write and a power that are refused
+-- what a stretch of fan 1 may hold: a read of a status register, an alert, a count of each fan, the pin let go, a sample of another channel, a period of
+-- the other fan; and a write and a power that are refused
 abbrev pub passing : List Event
 passing =
-    read (pos 44) (pos 0) (pos 0) ∷ point (pos 44) (pos 0x02) (pos 0) ∷ counted Two (pos 200) ∷ counted One (pos 100) ∷ letGo ∷ sampled Local (pos 160)
-    ∷ turned Two ∷ write (pos 45) (pos 0x00) (pos 0) ∷ power (pos 47) (pos 0) (pos 0) ∷ []
+    read (pos 44) (pos 0) (pos 0) ∷ point (pos 44) (pos 0x02) (pos 0) ∷ alert (pos 44) (pos 0) (pos 0) ∷ counted Two (pos 200) ∷ counted One (pos 100)
+    ∷ letGo ∷ sampled Local (pos 160) ∷ turned Two ∷ write (pos 45) (pos 0x00) (pos 0) ∷ power (pos 47) (pos 0) (pos 0) ∷ []
 
 -- two periods, and all that between them
 abbrev pub rampedDown : List Event
@@ -132,3 +134,5 @@ pub record Witness : Type 0 where
   pub subtracted : Reads Remote1 (pos 160) (pos 40)
   pub above : Reads Local (pos 1022) (pos 1022)
   pub below : Reads Remote1 (negsuc 1000) (negsuc 1023)
+  -- alerts
+  pub alerts : AlertWitness

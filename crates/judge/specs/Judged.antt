@@ -45,7 +45,8 @@ abbrev pub noPowerIn : Standing → Input → Bool
 noPowerIn s i = not (s .on) && not (isA kind.Power i)
 
 abbrev pub otherAddressIn : Standing → Input → Bool
-otherAddressIn s i = (isA kind.Write i || (isA kind.Point i || isA kind.Read i)) && not (eqb (i .who) (s .address))
+otherAddressIn s i =
+    (isA kind.Write i || (isA kind.Point i || (isA kind.Read i || isA kind.Alert i))) && not (eqb (i .who) (s .address))
 
 abbrev pub noPartIn : Input → Bool
 noPartIn i =

@@ -44,7 +44,9 @@ fn no_power(s: Standing, i: Input) -> bool
 fn other_address(s: Standing, i: Input) -> bool
     ensures { λ b. ⌜ b ≡ otherAddressIn s i ⌝ }
 {
-    (input::is_a(Kind::Write, i) | (input::is_a(Kind::Point, i) | input::is_a(Kind::Read, i)))
+    (input::is_a(Kind::Write, i)
+        | (input::is_a(Kind::Point, i)
+            | (input::is_a(Kind::Read, i) | input::is_a(Kind::Alert, i))))
         & !(i.who == s.address as u32)
 }
 

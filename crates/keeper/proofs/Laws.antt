@@ -25,16 +25,17 @@ use Rattle.stored.specs.declared.Registers.{Registers}
 use Rattle.channel.specs.declared.Channel.{Channel}
 use Rattle.fan.specs.Fans.{stopped}
 use Rattle.fan.specs.declared.Fan.{Fan}
-use Rattle.chip.specs.Chips.{chipAfter}
 use Rattle.chip.specs.declared.Chip.{Chip}
 use Rattle.output.specs.Outputs.{registerAt, shownOf}
+use Rattle.device.specs.Devices.{deviceAfter}
+use Rattle.device.specs.declared.Device.{Device}
 use Rattle.integer.specs.Bits.{bitOf}
 use Rattle.buffer.proofs.TextLaws.{sets-append}
 use Rattle.keeper.specs.declared.Keeper.{Keeper}
 use Rattle.keeper.specs.declared.Keeper.the-variants.{Off, On}
 use Rattle.keeper.specs.declared.Outcome.{Outcome}
-use Rattle.keeper.specs.Keeping.{blank, noChannelRegisters, noFanRegisters, noChannel, isOn, chipIn, standingWith, dataFor, acceptedBy, decided}
-use Rattle.keeper.specs.Keeping.{outcomeOf, shownBy, imageFrom, imageAnswer, imageBuffer}
+use Rattle.keeper.specs.Keeping.{blank, blankDevice, noChannelRegisters, noFanRegisters, noChannel, isOn, deviceIn, standingWith, dataFor}
+use Rattle.keeper.specs.Keeping.{acceptedBy, decided, outcomeOf, shownBy, imageFrom, imageAnswer, imageBuffer}
 
 -- ---- a chip that never had power
 
@@ -59,15 +60,18 @@ pub blank-is :
     blank
 blank-is p q r s t u = rw (p, q, r, s, t, u)
 
+pub blank-device : {c : Chip} → c ≡ blank → _≡_ {A = Device} (record { chip = c; silenced = false }) blankDevice
+blank-device p = rw p
+
 -- ---- what is shown
 
 pub shown-off : {k : Keeper} → k ≡ Off → _≡_ {A = Shown} (record { int = 0; therm = 0; fault = 0; duty1 = 0; duty2 = 0 }) (shownBy k)
 unfolding shownBy
 shown-off p = rw p
 
-pub shown-chip : {k : Keeper} {c : Chip} {s : Shown} → k ≡ On c → s ≡ shownOf c → s ≡ shownBy k
+pub shown-on : {k : Keeper} {d : Device} {s : Shown} → k ≡ On d → s ≡ shownOf (d .chip) (d .silenced) → s ≡ shownBy k
 unfolding shownBy
-shown-chip p e = rw p e
+shown-on p e = rw p e
 
 -- ---- one event
 
@@ -78,26 +82,27 @@ module _ (c : Chip) (i : Input) {t : Bool} (is : t ≡ isA kind.Read i) where
   pub data-none : t ≡ false → 0 ≡ dataFor c i
   data-none p = rw (sym is ∙ p)
 
-pub accept-is : (c : Chip) (i : Input) {x : Chip} {d : ℕ} {s : Shown} → d ≡ dataFor c i → x ≡ chipAfter i c → s ≡ shownOf x
-    → _≡_ {A = Outcome} (record { keeper = On x; answer = Done d; shown = s }) (acceptedBy c i)
-accept-is c i p q r = rw (p, r, q)
+pub accept-is :
+    (d : Device) (i : Input) {x : Device} {n : ℕ} {s : Shown} → n ≡ dataFor (d .chip) i → x ≡ deviceAfter i d → s ≡ shownOf (x .chip) (x .silenced)
+    → _≡_ {A = Outcome} (record { keeper = On x; answer = Done n; shown = s }) (acceptedBy d i)
+accept-is d i p q r = rw (p, r, q)
 
-pub chip-on : {k : Keeper} {c : Chip} → k ≡ On c → c ≡ chipIn k
-chip-on p = rw p
+pub device-on : {k : Keeper} {d : Device} → k ≡ On d → d ≡ deviceIn k
+device-on p = rw p
 
 pub standing-is : (on : Bool) (c : Chip) {m : Bool} → m ≡ bitOf (c .registers .config1) 0
     → _≡_ {A = Standing} (record { on = on; address = c .port .address; monitoring = m }) (standingWith on c)
 standing-is on c q = rw q
 
-module _ (k : Keeper) (c : Chip) (i : Input) (a : Answer) {n : ℕ} (q : n ≡ numberOf a) where
-  pub decide-done : {x : Outcome} → n ≡ 0 → x ≡ acceptedBy c i → x ≡ decided k c i a
+module _ (k : Keeper) (d : Device) (i : Input) (a : Answer) {n : ℕ} (q : n ≡ numberOf a) where
+  pub decide-done : {x : Outcome} → n ≡ 0 → x ≡ acceptedBy d i → x ≡ decided k d i a
   decide-done z e = rw (sym q ∙ z) e
 
-  pub decide-not : {s : Shown} → (n ≡ 0 → ⊥) → s ≡ shownBy k → _≡_ {A = Outcome} (record { keeper = k; answer = a; shown = s }) (decided k c i a)
+  pub decide-not : {s : Shown} → (n ≡ 0 → ⊥) → s ≡ shownBy k → _≡_ {A = Outcome} (record { keeper = k; answer = a; shown = s }) (decided k d i a)
   decide-not z e = rw (ne-eqb (numberOf a) 0 (λ y. z (q ∙ y)), e)
 
-pub step-is : (k : Keeper) (e : Event) {c : Chip} {i : Input} {on : Bool} {s : Standing} {a : Answer} {x : Outcome}
-    → c ≡ chipIn k → i ≡ inputOf e → on ≡ isOn k → s ≡ standingWith on c → a ≡ lowestIn s i → x ≡ decided k c i a → x ≡ outcomeOf k e
+pub step-is : (k : Keeper) (e : Event) {d : Device} {i : Input} {on : Bool} {s : Standing} {a : Answer} {x : Outcome}
+    → d ≡ deviceIn k → i ≡ inputOf e → on ≡ isOn k → s ≡ standingWith on (d .chip) → a ≡ lowestIn s i → x ≡ decided k d i a → x ≡ outcomeOf k e
 unfolding outcomeOf
 step-is k e q r t u v w = w ∙ rw (v, u, t, q, r)
 
@@ -139,7 +144,7 @@ module _ {k : Keeper} (d : List ℕ) where
   unfolding imageBuffer
   buffer-off p = rw p
 
-  module _ {c : Chip} (p : k ≡ On c) where
+  module _ {x : Device} (p : k ≡ On x) where
     pub image-short : length d < 64 → Refused WrongSize ≡ imageAnswer k d
     unfolding imageAnswer
     image-short h = rw (p, lt-ltb (length d) 64 h)
@@ -152,6 +157,6 @@ module _ {k : Keeper} (d : List ℕ) where
     unfolding imageAnswer
     image-done h = rw (p, le-ltb (length d) 64 h)
 
-    pub buffer-done : {d′ : List ℕ} → 64 ≤ length d → d′ ≡ sets d 0 (imageFrom 0 64 c) → d′ ≡ imageBuffer k d
+    pub buffer-done : {d′ : List ℕ} → 64 ≤ length d → d′ ≡ sets d 0 (imageFrom 0 64 (x .chip)) → d′ ≡ imageBuffer k d
     unfolding imageBuffer
     buffer-done h e = rw (p, le-ltb (length d) 64 h) e

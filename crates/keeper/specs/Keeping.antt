@@ -1,4 +1,4 @@
--- The keeper: off, or a chip that has power. What each event is answered, and what is shown after it.
+-- The keeper: off, or a device that has power. What each event is answered, and what is shown after it.
 use Prim.Native.Nat.{ℕ, zero, suc}
 use mathlib.Core.Bool.{Bool, true, false, cond}
 use mathlib.Core.List.{List, [], _∷_}
@@ -21,9 +21,10 @@ use Rattle.stored.specs.declared.ChannelRegisters.{ChannelRegisters}
 use Rattle.stored.specs.declared.FanRegisters.{FanRegisters}
 use Rattle.channel.specs.declared.Channel.{Channel}
 use Rattle.fan.specs.Fans.{stopped}
-use Rattle.chip.specs.Chips.{chipAfter}
 use Rattle.chip.specs.declared.Chip.{Chip}
 use Rattle.output.specs.Outputs.{registerAt, shownOf}
+use Rattle.device.specs.Devices.{deviceAfter}
+use Rattle.device.specs.declared.Device.{Device}
 use Rattle.keeper.specs.declared.Keeper.{Keeper}
 use Rattle.keeper.specs.declared.Keeper.the-variants.{Off, On}
 use Rattle.keeper.specs.declared.Outcome.{Outcome}
@@ -61,14 +62,20 @@ blank =
       fan2 = stopped;
     }
 
--- a keeper that never had power has a chip too: the one before the first event
+abbrev pub blankDevice : Device
+blankDevice = record { chip = blank; silenced = false }
+
+-- a keeper that never had power has a device too: the one before the first event
 abbrev pub isOn : Keeper → Bool
 isOn Off = false
-isOn (On c) = true
+isOn (On d) = true
+
+abbrev pub deviceIn : Keeper → Device
+deviceIn Off = blankDevice
+deviceIn (On d) = d
 
 abbrev pub chipIn : Keeper → Chip
-chipIn Off = blank
-chipIn (On c) = c
+chipIn k = deviceIn k .chip
 
 -- what a reply asks of it
 abbrev pub standingWith : (on : Bool) → Chip → Standing
@@ -80,24 +87,29 @@ standingOf k = standingWith (isOn k) (chipIn k)
 -- before the first power all outputs are 0
 unfoldable pub shownBy : Keeper → Shown
 shownBy Off = record { int = 0; therm = 0; fault = 0; duty1 = 0; duty2 = 0 }
-shownBy (On c) = shownOf c
+shownBy (On d) = shownOf (d .chip) (d .silenced)
 
 -- only a read returns data: that of the register at the pointer
 abbrev pub dataFor : Chip → Input → ℕ
 dataFor c i = cond (isA kind.Read i) (registerAt c (c .port .pointer)) 0
 
--- an accepted event moves the chip; a refusal leaves the keeper
-abbrev pub acceptedBy : Chip → Input → Outcome
-acceptedBy c i = record { keeper = On (chipAfter i c); answer = Done (dataFor c i); shown = shownOf (chipAfter i c) }
+-- an accepted event moves the device; a refusal leaves the keeper
+abbrev pub acceptedBy : Device → Input → Outcome
+acceptedBy d i =
+    record {
+      keeper = On (deviceAfter i d);
+      answer = Done (dataFor (d .chip) i);
+      shown = shownOf (deviceAfter i d .chip) (deviceAfter i d .silenced);
+    }
 
 abbrev pub refusedBy : Keeper → Answer → Outcome
 refusedBy k a = record { keeper = k; answer = a; shown = shownBy k }
 
-abbrev pub decided : Keeper → Chip → Input → Answer → Outcome
-decided k c i a = cond (accepts a) (acceptedBy c i) (refusedBy k a)
+abbrev pub decided : Keeper → Device → Input → Answer → Outcome
+decided k d i a = cond (accepts a) (acceptedBy d i) (refusedBy k a)
 
 unfoldable pub outcomeOf : Keeper → Event → Outcome
-outcomeOf k e = decided k (chipIn k) (inputOf e) (lowestIn (standingOf k) (inputOf e))
+outcomeOf k e = decided k (deviceIn k) (inputOf e) (lowestIn (standingOf k) (inputOf e))
 
 -- the register image (below the reply table): place a holds what a read of a would return
 unfoldable pub imageFrom : (from count : ℕ) → Chip → List ℕ
@@ -106,9 +118,9 @@ imageFrom a (suc n) c = registerAt c a ∷ imageFrom (suc a) n c
 
 unfoldable pub imageAnswer : Keeper → (buffer : List ℕ) → Answer
 imageAnswer Off buffer = Refused NoPower
-imageAnswer (On c) buffer = cond (ltb (length buffer) 64) (Refused WrongSize) (Done 0)
+imageAnswer (On d) buffer = cond (ltb (length buffer) 64) (Refused WrongSize) (Done 0)
 
 -- with 1 or 11 no byte of the buffer changes; bytes after the 64th stay
 unfoldable pub imageBuffer : Keeper → List ℕ → List ℕ
 imageBuffer Off buffer = buffer
-imageBuffer (On c) buffer = cond (ltb (length buffer) 64) buffer (sets buffer 0 (imageFrom 0 64 c))
+imageBuffer (On d) buffer = cond (ltb (length buffer) 64) buffer (sets buffer 0 (imageFrom 0 64 (d .chip)))

@@ -3,6 +3,7 @@ use channel::Channel;
 use channel::Channels;
 use chip::Chip;
 use chip::Port;
+use device::Device;
 use drive::Drive;
 use fan::Fan;
 use stored::ChannelRegisters;
@@ -10,7 +11,7 @@ use stored::FanRegisters;
 use stored::Registers;
 ghost use mathlib.Core.Path.{_≡_};
 ghost use Rattle.fan.specs.Fans.{stopped};
-ghost use Rattle.keeper.specs.Keeping.{blank, noChannelRegisters, noFanRegisters, noChannel};
+ghost use Rattle.keeper.specs.Keeping.{blank, blankDevice, noChannelRegisters, noFanRegisters, noChannel};
 
 pub fn no_channel_registers() -> ChannelRegisters
     ensures { λ r. ⌜ r ≡ noChannelRegisters ⌝ }
@@ -98,5 +99,15 @@ pub fn blank_chip() -> Chip
         channels,
         fan1: no_fan(),
         fan2: no_fan(),
+    }
+}
+
+pub fn blank_device() -> Device
+    ensures { λ d. ⌜ d ≡ blankDevice ⌝ }
+{
+    let chip = blank_chip();
+    Device {
+        chip,
+        silenced: false,
     }
 }

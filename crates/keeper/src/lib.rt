@@ -1,8 +1,9 @@
-// The fan keeper: off until the first accepted power, then a chip. Every event gets one answer; a refusal changes nothing.
+// The fan keeper: off until the first accepted power, then a device. Every event gets one answer; a refusal changes nothing.
 // A keeper goes in by value and comes back by value.
 mod blank;
 
 use chip::Chip;
+use device::Device;
 use event::Answer;
 use event::Event;
 use event::Kind;
@@ -14,11 +15,12 @@ ghost use mathlib.Core.Path.{_≡_};
 ghost use Prim.Native.Nat.{_≤_};
 ghost use lib.ListN.{length};
 ghost use lib.Seq.{sets};
-ghost use Rattle.keeper.specs.Keeping.{isOn, chipIn, standingWith, dataFor, acceptedBy, decided, outcomeOf, shownBy, imageFrom, imageAnswer, imageBuffer};
+ghost use Rattle.keeper.specs.Keeping.{isOn, deviceIn, standingWith, dataFor, acceptedBy, decided, outcomeOf, shownBy};
+ghost use Rattle.keeper.specs.Keeping.{imageFrom, imageAnswer, imageBuffer};
 
 pub enum Keeper {
     Off,
-    On(Chip),
+    On(Device),
 }
 
 // The next keeper, the answer, and what is shown after the event.
@@ -51,7 +53,7 @@ pub fn shown(k: Keeper) -> Shown
             duty1: 0,
             duty2: 0,
         },
-        Keeper::On(c) => output::shown(c),
+        Keeper::On(d) => output::shown(d.chip, d.silenced),
     }
 }
 
@@ -68,15 +70,15 @@ fn data_for(c: Chip, i: Input) -> u8
     }
 }
 
-fn accept(c: Chip, i: Input) -> Outcome
-    ensures { λ r. ⌜ r ≡ acceptedBy c i ⌝ }
+fn accept(d: Device, i: Input) -> Outcome
+    ensures { λ r. ⌜ r ≡ acceptedBy d i ⌝ }
 {
-    let data = data_for(c, i);
-    let next = chip::chip_after(i, c);
+    let data = data_for(d.chip, i);
+    let next = device::device_after(i, d);
     Outcome {
         keeper: Keeper::On(next),
         answer: Answer::Done(data),
-        shown: output::shown(next),
+        shown: output::shown(next.chip, next.silenced),
     }
 }
 
@@ -89,12 +91,12 @@ fn is_on(k: Keeper) -> bool
     }
 }
 
-fn chip_in(k: Keeper) -> Chip
-    ensures { λ r. ⌜ r ≡ chipIn k ⌝ }
+fn device_in(k: Keeper) -> Device
+    ensures { λ r. ⌜ r ≡ deviceIn k ⌝ }
 {
     match k {
-        Keeper::Off => blank::blank_chip(),
-        Keeper::On(c) => c,
+        Keeper::Off => blank::blank_device(),
+        Keeper::On(d) => d,
     }
 }
 
@@ -108,11 +110,11 @@ fn standing(on: bool, c: Chip) -> Standing
     }
 }
 
-fn decide(k: Keeper, c: Chip, i: Input, a: Answer) -> Outcome
-    ensures { λ r. ⌜ r ≡ decided k c i a ⌝ }
+fn decide(k: Keeper, d: Device, i: Input, a: Answer) -> Outcome
+    ensures { λ r. ⌜ r ≡ decided k d i a ⌝ }
 {
     if event::number_of(a) == 0 {
-        accept(c, i)
+        accept(d, i)
     } else {
         Outcome {
             keeper: k,
@@ -126,10 +128,10 @@ fn decide(k: Keeper, c: Chip, i: Input, a: Answer) -> Outcome
 pub fn step(k: Keeper, e: Event) -> Outcome
     ensures { λ r. ⌜ r ≡ outcomeOf k e ⌝ }
 {
-    let c = chip_in(k);
+    let d = device_in(k);
     let i = input::input_of(e);
-    let a = judge::reply(standing(is_on(k), c), i);
-    decide(k, c, i, a)
+    let a = judge::reply(standing(is_on(k), d.chip), i);
+    decide(k, d, i, a)
 }
 
 // ---- the register image
@@ -152,11 +154,11 @@ pub fn image(k: Keeper, buffer: &mut [u8]) -> Answer
 {
     match k {
         Keeper::Off => Answer::Refused(Refusal::NoPower),
-        Keeper::On(c) => {
+        Keeper::On(d) => {
             if buffer.len() < 64 {
                 return Answer::Refused(Refusal::WrongSize);
             }
-            fill(c, buffer);
+            fill(d.chip, buffer);
             Answer::Done(0)
         }
     }

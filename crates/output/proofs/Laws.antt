@@ -16,7 +16,7 @@ use Rattle.reading.specs.Reading.{byteOf}
 use Rattle.stored.specs.Stored.{storedIn}
 use Rattle.channel.specs.Channels.{thermOf}
 use Rattle.chip.specs.declared.Chip.{Chip}
-use Rattle.output.specs.Outputs.{statusOf, extendedIn, registerAt, pendingIn, intOf, faultOf, shownOf}
+use Rattle.output.specs.Outputs.{statusOf, extendedIn, registerAt, pendingIn, intDueOf, faultOf, shownOf}
 
 module _ (k : Chip) {f : FanId} {v : ℕ} where
   pub status-one : f ≡ One → v ≡ statusOf One k → v ≡ statusOf f k
@@ -74,19 +74,20 @@ module _ {on : Bool} (status : ℕ) where
   pub pending-off : on ≡ false → ltb 0 (bitAnd status 0xDF) ≡ pendingIn on status
   pending-off t = rw t
 
-pub int-is :
+pub due-is :
     (k : Chip) {o1 o2 e p1 p2 : Bool} {s1 s2 : ℕ} → o1 ≡ channelEnabled Remote1 (k .registers .config2) → o2 ≡ channelEnabled Remote2 (k .registers .config2)
     → e ≡ bitOf (k .registers .config1) 1 → s1 ≡ statusOf One k → p1 ≡ pendingIn o1 s1 → s2 ≡ statusOf Two k → p2 ≡ pendingIn o2 s2
-    → (e && (p1 || p2)) ≡ intOf k
-unfolding intOf
-int-is k e1 e2 e3 e4 e5 e6 e7 = rw (e3, e5, e7, e4, e6, e1, e2)
+    → (e && (p1 || p2)) ≡ intDueOf k
+unfolding intDueOf
+due-is k e1 e2 e3 e4 e5 e6 e7 = rw (e3, e5, e7, e4, e6, e1, e2)
 
 pub fault-is : (k : Chip) {e : Bool} → e ≡ bitOf (k .registers .config1) 4 → (e && (eqb (k .fan1 .run) 5 || eqb (k .fan2 .run) 5)) ≡ faultOf k
 unfolding faultOf
 fault-is k e = rw e
 
 pub shown-is :
-    (k : Chip) {i t f : Bool} {n1 n2 n3 : ℕ} → i ≡ intOf k → n1 ≡ flagOf i → t ≡ thermOf (k .channels) → n2 ≡ flagOf t → f ≡ faultOf k → n3 ≡ flagOf f
-    → _≡_ {A = Shown} (record { int = n1; therm = n2; fault = n3; duty1 = k .fan1 .drive .duty; duty2 = k .fan2 .drive .duty }) (shownOf k)
+    (k : Chip) (silenced : Bool) {i t f : Bool} {n1 n2 n3 : ℕ} → i ≡ intDueOf k → n1 ≡ flagOf (i && not silenced)
+    → t ≡ thermOf (k .channels) → n2 ≡ flagOf t → f ≡ faultOf k → n3 ≡ flagOf f
+    → _≡_ {A = Shown} (record { int = n1; therm = n2; fault = n3; duty1 = k .fan1 .drive .duty; duty2 = k .fan2 .drive .duty }) (shownOf k silenced)
 unfolding shownOf
-shown-is k e1 e2 e3 e4 e5 e6 = rw (e2, e4, e6, e1, e3, e5)
+shown-is k silenced e1 e2 e3 e4 e5 e6 = rw (e2, e4, e6, e1, e3, e5)

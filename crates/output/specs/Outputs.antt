@@ -1,6 +1,6 @@
 -- What the chip shows: each register, INT, THERM, FAN_FAULT and the duties.
 use Prim.Native.Nat.{ℕ}
-use mathlib.Core.Bool.{Bool, cond, _&&_, _||_}
+use mathlib.Core.Bool.{Bool, cond, not, _&&_, _||_}
 use lib.Bits.{bitAnd}
 use lib.Dec.{ltb, eqb}
 use Rattle.integer.specs.Bits.{flagOf, packed}
@@ -49,8 +49,8 @@ registerAt k a =
 abbrev pub pendingIn : (on : Bool) (status : ℕ) → Bool
 pendingIn on status = ltb 0 (bitAnd status (cond on 0xFF 0xDF))
 
-unfoldable pub intOf : Chip → Bool
-intOf k =
+unfoldable pub intDueOf : Chip → Bool
+intDueOf k =
     intEnabled (k .registers .config1)
     && (pendingIn (channelEnabled Remote1 (k .registers .config2)) (statusOf One k)
     || pendingIn (channelEnabled Remote2 (k .registers .config2)) (statusOf Two k))
@@ -59,11 +59,11 @@ intOf k =
 unfoldable pub faultOf : Chip → Bool
 faultOf k = faultEnabled (k .registers .config1) && (eqb (k .fan1 .run) 5 || eqb (k .fan2 .run) 5)
 
--- INT, THERM and FAN_FAULT as 1 while asserted, else 0
-unfoldable pub shownOf : Chip → Shown
-shownOf k =
+-- INT, THERM and FAN_FAULT as 1 while asserted, else 0; INT is not, while it is let go (T-02)
+unfoldable pub shownOf : Chip → (silenced : Bool) → Shown
+shownOf k silenced =
     record {
-      int = flagOf (intOf k);
+      int = flagOf (intDueOf k && not silenced);
       therm = flagOf (thermOf (k .channels));
       fault = flagOf (faultOf k);
       duty1 = k .fan1 .drive .duty;

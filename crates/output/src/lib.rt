@@ -5,11 +5,12 @@ use event::Shown;
 use part::ChannelId;
 use part::FanId;
 ghost use mathlib.Core.Path.{_≡_};
-ghost use Rattle.output.specs.Outputs.{statusOf, registerAt, pendingIn, intOf, faultOf, shownOf};
+ghost use Rattle.output.specs.Outputs.{statusOf, registerAt, pendingIn, intDueOf, faultOf, shownOf};
 
 // ---- registers
 
-fn status(f: FanId, k: Chip) -> u8
+// The status registers: 0x02 by fan 1, 0x03 by fan 2.
+pub fn status(f: FanId, k: Chip) -> u8
     ensures { λ r. ⌜ r ≡ statusOf f k ⌝ }
 {
     match f {
@@ -71,8 +72,9 @@ fn is_pending(on: bool, status: u8) -> bool
     }
 }
 
-fn int(k: Chip) -> bool
-    ensures { λ b. ⌜ b ≡ intOf k ⌝ }
+// Whether INT is to be asserted, unless an alert has let it go.
+pub fn int_due(k: Chip) -> bool
+    ensures { λ b. ⌜ b ≡ intDueOf k ⌝ }
 {
     let on1 = stored::channel_enabled(ChannelId::Remote1, k.registers.config2);
     let on2 = stored::channel_enabled(ChannelId::Remote2, k.registers.config2);
@@ -86,11 +88,12 @@ fn fault(k: Chip) -> bool
     integer::bit(k.registers.config1, 4) & ((k.fan1.run == 5) | (k.fan2.run == 5))
 }
 
-pub fn shown(k: Chip) -> Shown
-    ensures { λ r. ⌜ r ≡ shownOf k ⌝ }
+// The outputs; INT is not asserted while it is let go.
+pub fn shown(k: Chip, silenced: bool) -> Shown
+    ensures { λ r. ⌜ r ≡ shownOf k silenced ⌝ }
 {
     Shown {
-        int: integer::flag(int(k)),
+        int: integer::flag(int_due(k) & !silenced),
         therm: integer::flag(channel::therm(k.channels)),
         fault: integer::flag(fault(k)),
         duty1: k.fan1.drive.duty,

@@ -29,4 +29,9 @@ pub mod PageTachLaws
 pub mod PageStaysLaws
 pub mod OffsetWriteLaws
 pub mod PageOffsetsLaws
+pub mod AlertLaws
+pub mod IntLaws
+pub mod PageAlertsLaws
+pub mod AlertRowLaws
+pub mod PageAlertRowLaws
 pub mod PageLaws

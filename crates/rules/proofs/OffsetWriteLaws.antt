@@ -104,4 +104,4 @@ module _ (d : Taken) (c : ChannelId) (w : ℤ) (b : ℕ) where
   value-same a q = value-kept e d bits settled a (stored-same a q)
 
   pub shown-same : shown (e ∷ d) ≡ shown d
-  shown-same = shown-kept e d bits settled run-same duty-left
+  shown-same = shown-kept e d bits settled refl run-same duty-left

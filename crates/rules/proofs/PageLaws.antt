@@ -7,6 +7,8 @@ use Rattle.rules.proofs.PageDutiesLaws.{page-duties}
 use Rattle.rules.proofs.PageTachLaws.{page-tach}
 use Rattle.rules.proofs.PageStaysLaws.{page-stays}
 use Rattle.rules.proofs.PageOffsetsLaws.{page-offsets}
+use Rattle.rules.proofs.PageAlertsLaws.{page-alerts}
+use Rattle.rules.proofs.PageAlertRowLaws.{page-alert-row}
 
 pub page : (h : History) → Page h
 page h =
@@ -17,4 +19,6 @@ page h =
       tachs = page-tach h;
       stays = page-stays h;
       offsets = page-offsets h;
+      alerts = page-alerts h;
+      alertRow = page-alert-row;
     }

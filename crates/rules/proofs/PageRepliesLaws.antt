@@ -26,7 +26,7 @@ use Rattle.rules.proofs.WriteLaws.{others, written}
 use Rattle.rules.proofs.ImageLaws.{image-answer, image-byte, image-rest, image-length, image-kept}
 
 -- a refusal has no data
-no-data : (r : Answer) → accepts r ≡ false → dataOf r ≡ 0
+pub no-data : (r : Answer) → accepts r ≡ false → dataOf r ≡ 0
 no-data (Done n) q = absurd (true≢false q)
 no-data (Refused r) q = refl
 
@@ -59,6 +59,7 @@ page-replies h =
       pins = reply.pins h;
       clocks = reply.clocks h;
       periods = reply.periods h;
+      alerts = reply.alerts h;
       refusal = λ e bad. (refusal h e bad, refused-is e h bad);
       silent = silent h;
       handedOut = λ w go. rw go;

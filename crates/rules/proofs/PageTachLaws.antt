@@ -82,7 +82,7 @@ module _ (f : FanId) (n : ℕ) (d : Taken) where
     run-after {b} q = tach.run-is (count f n) d (is-tach f n) f ∙ rw (tracked, q, judged-by y)
 
 -- a run moves by no other kind
-run-kept :
+pub run-kept :
     (f : FanId) (e : Event) (d : Taken) → isKind kind.Tach e ≡ false → isKind kind.Power e ≡ false → isKind kind.Write e ≡ false →
     failures f (e ∷ d) ≡ failures f d
 unfolding failures failed judged

@@ -1,13 +1,11 @@
 -- The page of the temperatures holds after every list. Assumes nothing.
 use Prim.Native.Nat.{ℕ}
 use mathlib.Core.Path.{_≡_, refl, sym, _∙_}
-use mathlib.Core.Bool.{true, false, cond, _&&_, _||_}
+use mathlib.Core.Bool.{true, false, _||_}
 use mathlib.Core.List.{_∷_}
-use lib.Bits.{bitAnd}
-use lib.Dec.{eqb, ltb}
+use lib.Dec.{eqb}
 use lib.IntN.{ℤ, pos}
-use Rattle.integer.specs.Bits.{bitOf, flagOf}
-use Rattle.integer.proofs.PackLaws.{pending-law}
+use Rattle.integer.specs.Bits.{bitOf}
 use Rattle.part.specs.declared.ChannelId.{ChannelId}
 use Rattle.part.specs.declared.ChannelId.the-variants.{Local, Remote1, Remote2}
 use Rattle.part.specs.declared.FanId.{FanId}
@@ -20,7 +18,7 @@ use Rattle.rules.specs.Events.{samples}
 use Rattle.rules.specs.Stored.{Taken, storedAt, pinLow, diodeError, pulledBit}
 use Rattle.rules.specs.Replies.{History, taken}
 use Rattle.rules.specs.Temperatures.{temperature, channelOn}
-use Rattle.rules.specs.Shows.{status, byteAt, value, pending, intAsserted, shown, answer}
+use Rattle.rules.specs.Shows.{byteAt, value, answer}
 use Rattle.rules.specs.PageWords.{power, write, read, sampled, pulledLow, letGo, byChannel, byFan}
 use Rattle.rules.specs.PageTemperatures.{PageTemperatures, reset}
 use Rattle.rules.proofs.TakenLaws.{took, accepted-is}
@@ -70,15 +68,6 @@ module _ (d : Taken) where
   let-go : bitOf (value 0x03 (letGo ∷ d)) 7 ≡ bitOf (value 0x03 d) 7
   unfolding pulledBit
   let-go = rw (pulled-shown (letGo ∷ d), pulled-shown d)
-
-  -- ---- INT
-
-  int-is :
-      shown d .int
-      ≡ flagOf (bitOf (value 0x00 d) 1 && (ltb 0 (bitAnd (value 0x02 d) (cond (bitOf (value 0x01 d) 5) 0xFF 0xDF))
-      || ltb 0 (bitAnd (value 0x03 d) (cond (bitOf (value 0x01 d) 6) 0xFF 0xDF))))
-  unfolding shown intAsserted pending value byteAt existsAt status
-  int-is = simp pending-law
 
 -- an event that is none of the channel's leaves its status bits
 bits-kept :
@@ -139,7 +128,6 @@ page-temperatures h =
       released = λ go. rw (accepted-is letGo h go) (let-go (taken h));
       pulledStays = λ e go n r p w.
           rw (accepted-is e h go) (pulled-shown (e ∷ taken h) ∙ (pulled-kept e (taken h) p w r n ∙ sym (pulled-shown (taken h))));
-      int = int-is (taken h);
       resetKeeps = λ w b go y. rw (accepted-is (reset w b) h go) (reset-keeps (taken h) w b);
       resetAsPower = λ w b x y go seven high p q own on.
           let one = sym (error-shown (taken h) One) ∙ p in

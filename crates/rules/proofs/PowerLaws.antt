@@ -13,7 +13,7 @@ use Rattle.rules.specs.Stored.{Taken, storedAt, pinLow, diodeError, pull
 use Rattle.rules.specs.Temperatures.{temperature, latch, thermAsserted, highBit, lowBit, thermBit}
 use Rattle.rules.specs.Targets.{flag, demand, assignedBy, targetOf, target, overridden}
 use Rattle.rules.specs.Duties.{Spin, left, dutyAfter, spinAfter, atRest, spin, duty, judged, failed, failures, faultBit, atAlarm, alarmBit}
-use Rattle.rules.specs.Shows.{status, byteAt, value, intAsserted, faultAsserted, shown, valuesFrom}
+use Rattle.rules.specs.Shows.{status, byteAt, value, intDue, intAsserted, faultAsserted, shown, valuesFrom}
 use Rattle.rules.specs.PageWords.{power, byFan}
 use Rattle.rules.specs.PageReplies.{powerImage}
 
@@ -21,7 +21,7 @@ abbrev pub dark : Shown
 dark = record { int = 0; therm = 0; fault = 0; duty1 = 0; duty2 = 0 }
 
 pub none-shown : shown [] ≡ dark
-unfolding shown intAsserted faultAsserted thermAsserted storedAt latch duty spin
+unfolding shown intAsserted intDue faultAsserted thermAsserted storedAt latch duty spin
 none-shown = refl
 
 module _ (d : Taken) (w : ℤ) where
@@ -43,7 +43,7 @@ module _ (d : Taken) (w : ℤ) where
   power-run Two a v = refl
 
   pub power-shown : (a v : ℤ) → shown (power w a v ∷ d) ≡ dark
-  unfolding shown intAsserted faultAsserted thermAsserted storedAt resetAt latch
+  unfolding shown intAsserted intDue faultAsserted thermAsserted storedAt resetAt latch
   power-shown a v = rw (power-duty One a v, power-duty Two a v, power-run One a v, power-run Two a v)
 
   -- the diode errors, 0 or 1, are all that the status bytes hold

@@ -16,7 +16,7 @@ use Rattle.rules.specs.Events.{rangesOf, lies, upTo}
 use Rattle.rules.specs.Stored.{powered, ownAddress}
 use Rattle.rules.specs.Replies.{History, taken, accepts, replyTo, lowest}
 use Rattle.rules.specs.Shows.{value, byteAt, answer}
-use Rattle.rules.specs.PageWords.{replyNumber, power, write, point, read, sample, tach, pin, clock, period}
+use Rattle.rules.specs.PageWords.{replyNumber, power, write, point, read, sample, tach, pin, clock, period, alert}
 use Rattle.rules.specs.PageReplies.{first, oneOf, between, isZero, registers, readOnlyRegisters, badRange, odd, ours, monitored, powerOn}
 use Rattle.rules.proofs.TakenLaws.{took, own-small}
 use Rattle.rules.proofs.ReplyWords.{same-is, zero-is, within-is, register-is, read-only-is, control-is, bad-range-is, odd-is, own-fits, register-fits}
@@ -82,6 +82,13 @@ module _ (h : History) (w a v : ℤ) where
   unfolding replyTo lowest rangesOf
   reads =
       number-is (read w a v) h
+      ∙ simp (pushed, and-true)
+      (rw (same-is w (ownAddress (taken h))) (by-cases (ours w h) (λ o. rw (o, fits o, zero-is a, zero-is v)) (λ o. rw o)))
+
+  pub alerts : replyNumber (alert w a v) h ≡ first (not (powerOn h)) 1 (first (not (ours w h)) 2 (first (not (isZero a && isZero v)) 6 0))
+  unfolding replyTo lowest rangesOf
+  alerts =
+      number-is (alert w a v) h
       ∙ simp (pushed, and-true)
       (rw (same-is w (ownAddress (taken h))) (by-cases (ours w h) (λ o. rw (o, fits o, zero-is a, zero-is v)) (λ o. rw o)))
 

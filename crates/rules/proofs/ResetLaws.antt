@@ -15,7 +15,7 @@ use Rattle.rules.specs.Stored.{Taken, storedAt, pointer, pinLow, ownAddr
 use Rattle.rules.specs.Temperatures.{temperature, latch, thermAsserted, highBit, lowBit, thermBit}
 use Rattle.rules.specs.Targets.{flag, demand, assignedBy, targetOf, target, overridden}
 use Rattle.rules.specs.Duties.{spinUpOf, left, dutyAfter, spinAfter, spin, duty, judged, failed, failures, faultBit, atAlarm, alarmBit}
-use Rattle.rules.specs.Shows.{status, byteAt, value, intAsserted, faultAsserted, shown}
+use Rattle.rules.specs.Shows.{status, byteAt, value, intDue, intAsserted, faultAsserted, shown}
 use Rattle.rules.specs.PageWords.{power, byFan}
 use Rattle.rules.specs.PageTemperatures.{reset}
 use Rattle.rules.proofs.PowerLaws.{dark, power-shown}
@@ -58,7 +58,7 @@ module _ (d : Taken) (w : ℤ) (b : ℕ) (seven : bitOf b 7 ≡ true) where
     reset-spin Two = rw (seven, reset-target Two, reset-calm)
 
     reset-shown : shown (reset w b ∷ d) ≡ dark
-    unfolding shown intAsserted faultAsserted thermAsserted storedAt resetAt duty
+    unfolding shown intAsserted intDue faultAsserted thermAsserted storedAt resetAt duty
     reset-shown = rw (reset-spin One, reset-spin Two, reset-run One, reset-run Two, reset-latch Local, reset-latch Remote1, reset-latch Remote2, seven)
 
     module _ (x y own : ℕ) (p : diodeError Remote1 d ≡ eqb x 1) (q : diodeError Remote2 d ≡ eqb y 1) where

@@ -44,4 +44,4 @@ module _ (e : Event) (d : Taken) (tach : isKind kind.Tach e ≡ true) (calm : (f
   value-same a q = value-kept e d bits settled a (byte-same e d (is kind.Power) (is kind.Write) a q)
 
   pub shown-same : shown (e ∷ d) ≡ shown d
-  shown-same = shown-kept e d bits settled run-same duty-same
+  shown-same = shown-kept e d bits settled (is kind.Alert) run-same duty-same

@@ -78,7 +78,7 @@ ranges who arg val = record { who = who; arg = arg; val = val }
 abbrev pub unused : Range
 unused = upTo 0
 
--- the table: power, write, point, read, sample, tach, pin, clock, period. A bus address has 7 bits and a register 8;
+-- the table: power, write, point, read, sample, tach, pin, clock, period; alert (T-02). A bus address has 7 bits and a register 8;
 -- which of them are ours is judged by replies 2 and 4.
 abbrev pub carried : List Ranges
 carried =
@@ -91,6 +91,7 @@ carried =
     ∷ ranges unused unused (upTo 1)
     ∷ ranges unused unused unused
     ∷ ranges (fromTo (pos 1) (pos 2)) unused unused
+    ∷ ranges (upTo 127) unused unused
     ∷ []
 
 unfoldable pub rangesOf : Event → Ranges

@@ -8,10 +8,13 @@ pub mod Temperatures
 pub mod Targets
 pub mod Duties
 pub mod Shows
+pub mod AlertRow
 pub mod PageWords
 pub mod PageReplies
 pub mod PageTemperatures
 pub mod PageDuties
 pub mod PageStays
 pub mod PageOffsets
+pub mod PageAlerts
+pub mod PageAlertRow
 pub mod Page

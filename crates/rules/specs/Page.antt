@@ -1,11 +1,15 @@
--- The page: every sentence of document 01, and of T-01 of document 02, that says what the chip does, a second time,
+-- The page: every sentence of document 01, and of T-01 and T-02 of document 02, that says what the chip does, a second time,
 -- over events with their numbers and over what a user sees.
+use mathlib.Core.List.{List}
+use Rattle.event.specs.declared.AlertEntry.{AlertEntry}
 use Rattle.rules.specs.Replies.{History}
 use Rattle.rules.specs.PageReplies.{PageReplies}
 use Rattle.rules.specs.PageTemperatures.{PageTemperatures}
 use Rattle.rules.specs.PageDuties.{PageDuties, PageTach}
 use Rattle.rules.specs.PageStays.{PageStays}
 use Rattle.rules.specs.PageOffsets.{PageOffsets}
+use Rattle.rules.specs.PageAlerts.{PageAlerts}
+use Rattle.rules.specs.PageAlertRow.{PageAlertRow}
 
 pub record Page (h : History) : Type 0 where
   pub replies : PageReplies h
@@ -14,3 +18,5 @@ pub record Page (h : History) : Type 0 where
   pub tachs : PageTach h
   pub stays : PageStays h
   pub offsets : PageOffsets h
+  pub alerts : PageAlerts h
+  pub alertRow : (row : List AlertEntry) → PageAlertRow row

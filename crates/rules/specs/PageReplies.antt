@@ -20,7 +20,8 @@ use Rattle.rules.specs.Temperatures.{latch}
 use Rattle.rules.specs.Targets.{flag}
 use Rattle.rules.specs.Duties.{left, spin, failures}
 use Rattle.rules.specs.Shows.{valuesFrom, imageReply, imageHeld}
-use Rattle.rules.specs.PageWords.{power, write, point, read, sample, tach, pin, clock, period, Accepted, register, bit, out, replyNumber, dataOut}
+use Rattle.rules.specs.PageWords.{power, write, point, read, sample, tach, pin, clock, period, alert, Accepted, register, bit, out}
+use Rattle.rules.specs.PageWords.{replyNumber, dataOut}
 
 -- ---- words for the replies: v is n, v is one of a list, low ≤ v ≤ high
 
@@ -110,6 +111,10 @@ pub record PageReplies (h : History) : Type 0 where
   pub periods :
       (w a v : ℤ) → replyNumber (period w a v) h
       ≡ first (not (powerOn h)) 1 (first (not (between (pos 1) (pos 2) w)) 3 (first (not (isZero a && isZero v)) 6 0))
+  -- T-02: "Refusals: 1, 2 and 6 for the event"
+  pub alerts :
+      (w a v : ℤ) → replyNumber (alert w a v) h
+      ≡ first (not (powerOn h)) 1 (first (not (ours w h)) 2 (first (not (isZero a && isZero v)) 6 0))
   -- "A refusal returns its number with data 0 and leaves the whole state as before."
   pub refusal : (e : Event) → accepted e h ≡ false → (dataOut e h ≡ 0) × (taken (e ∷ h) ≡ taken h)
   -- "Only a read returns data": the byte at the pointer

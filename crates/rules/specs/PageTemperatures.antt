@@ -3,11 +3,10 @@ use Prim.Native.Nat.{ℕ, _+_, _*_, _/_, _%_, _<_}
 use mathlib.Core.Path.{_≡_}
 use mathlib.Core.Bool.{Bool, true, false, cond, not, _&&_, _||_}
 use mathlib.Core.List.{_∷_}
-use lib.Bits.{bitAnd}
-use lib.Dec.{eqb, ltb}
+use lib.Dec.{eqb}
 use lib.IntN.{ℤ, pos, _+ℤ_, _-ℤ_, _*ℤ_}
 use lib.Signed.{ltZ}
-use Rattle.integer.specs.Bits.{bitOf, flagOf}
+use Rattle.integer.specs.Bits.{bitOf}
 use Rattle.part.specs.declared.ChannelId.{ChannelId}
 use Rattle.part.specs.declared.ChannelId.the-variants.{Local, Remote1, Remote2}
 use Rattle.part.specs.declared.FanId.{FanId}
@@ -124,10 +123,6 @@ pub record PageTemperatures (h : History) : Type 0 where
   pub pulledStays :
       (e : Event) → Accepted e h → isKind kind.Pin e ≡ false → isKind kind.Read e ≡ false → isKind kind.Power e ≡ false → isKind kind.Write e ≡ false →
       bit 0x03 7 (e ∷ h) ≡ bit 0x03 7 h
-  -- 8: INT: its enable bit, and a status byte, bit 5 masked for a disabled channel, that is not 0
-  pub int :
-      out h .int ≡ flagOf (bit 0x00 1 h && (ltb 0 (bitAnd (register 0x02 h) (cond (bit 0x01 5 h) 0xFF 0xDF))
-      || ltb 0 (bitAnd (register 0x03 h) (cond (bit 0x01 6 h) 0xFF 0xDF))))
   -- 9: software reset keeps address, pin level and diode errors; the pointer is 1
   pub resetKeeps :
       (w : ℤ) (b : ℕ) → Accepted (reset w b) h → bitOf b 7 ≡ true →

@@ -53,6 +53,9 @@ clock who arg val = event.Clock (numbers who arg val)
 abbrev pub period : (who arg val : ℤ) → Event
 period who arg val = event.Period (numbers who arg val)
 
+abbrev pub alert : (who arg val : ℤ) → Event
+alert who arg val = event.Alert (numbers who arg val)
+
 -- a sample of t eighths of the channel; a count, a period of the fan; the pin pulled low, let go; a tenth of a second
 abbrev pub sampled : ChannelId → ℤ → Event
 sampled Local t = sample (pos 0) (pos 0) t

@@ -23,9 +23,10 @@ use Rattle.rules.specs.Stored.{Taken, powered, ownAddress, storedAt}
 abbrev pub noPower : (on : Bool) → Event → Bool
 noPower on e = not on && not (isKind kind.Power e)
 
--- 2: write, point, read: not our address
+-- 2: write, point, read, alert: not our address
 abbrev pub otherAddress : (own : ℕ) → Event → Bool
-otherAddress own e = (isKind kind.Write e || (isKind kind.Point e || isKind kind.Read e)) && not (isNumber (who e) own)
+otherAddress own e =
+    (isKind kind.Write e || (isKind kind.Point e || (isKind kind.Read e || isKind kind.Alert e))) && not (isNumber (who e) own)
 
 -- 3: no such channel or fan
 abbrev pub noPart : Event → Bool

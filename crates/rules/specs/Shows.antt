@@ -1,12 +1,12 @@
 -- What the rules say is shown and answered after the accepted events: registers, INT, THERM, FAN_FAULT, duties, register image.
 use Prim.Native.Nat.{ℕ, zero, suc, _+_, _*_, _/_}
-use mathlib.Core.Bool.{Bool, cond, _&&_, _||_}
+use mathlib.Core.Bool.{Bool, false, cond, not, _&&_, _||_}
 use mathlib.Core.List.{List, [], _∷_}
 use lib.Dec.{ltb, leb, eqb}
 use lib.IntN.{ℤ}
 use lib.ListN.{length}
 use lib.Seq.{sets}
-use Rattle.integer.specs.Bits.{flagOf, packed}
+use Rattle.integer.specs.Bits.{bitOf, flagOf, packed}
 use Rattle.part.specs.declared.ChannelId.{ChannelId}
 use Rattle.part.specs.declared.ChannelId.the-variants.{Local, Remote1, Remote2}
 use Rattle.part.specs.declared.FanId.{FanId}
@@ -20,6 +20,7 @@ use Rattle.event.specs.declared.Refusal.the-variants.{NoPower, WrongSize}
 use Rattle.event.specs.declared.Shown.{Shown}
 use Rattle.rules.specs.Registers.{config1, statusAt, extended, valueAt, existsAt}
 use Rattle.rules.specs.Fields.{intEnabled, faultEnabled}
+use Rattle.rules.specs.Events.{restarts}
 use Rattle.rules.specs.Stored.{Taken, powered, storedAt, pointer, diodeError, pulledBit}
 use Rattle.rules.specs.Replies.{replyTo, accepts, History, taken}
 use Rattle.rules.specs.Temperatures.{temperature, wholeByte, remainder, thermAsserted, channelOn, highBit, lowBit, thermBit}
@@ -69,8 +70,27 @@ pending Two d =
     anySet (alarmBit Two d) (faultBit Two d) (highBit Remote2 d) (lowBit Remote2 d) (thermBit Remote2 d) (diodeError Remote2 d && channelOn Remote2 d)
     (thermBit Local d) (pulledBit d)
 
+unfoldable pub intDue : Taken → Bool
+intDue d = intEnabled (storedAt config1 d) && (pending One d || pending Two d)
+
+-- T-02 of document 02: a bit of a status byte goes from 0 to 1; some bit of it does; an event raises one of the sixteen
+abbrev pub risen : (was now place : ℕ) → Bool
+risen was now k = not (bitOf was k) && bitOf now k
+
+unfoldable pub someRisen : (was now : ℕ) → Bool
+someRisen was now =
+    anySet (risen was now 0) (risen was now 1) (risen was now 2) (risen was now 3) (risen was now 4) (risen was now 5) (risen was now 6) (risen was now 7)
+
+abbrev pub raises : Event → Taken → Bool
+raises e d = someRisen (status One d) (status One (e ∷ d)) || someRisen (status Two d) (status Two (e ∷ d))
+
+-- T-02: an alert that finds INT asserted lets it go, until a status bit is raised, a reset or a power
+unfoldable pub silenced : Taken → Bool
+silenced [] = false
+silenced (e ∷ d) = cond (restarts e) false (cond (silenced d) (not (raises e d)) (isKind kind.Alert e && intDue d))
+
 unfoldable pub intAsserted : Taken → Bool
-intAsserted d = intEnabled (storedAt config1 d) && (pending One d || pending Two d)
+intAsserted d = intDue d && not (silenced d)
 
 -- tach counts: FAN_FAULT while its enable bit is 1 and either run is 5
 unfoldable pub faultAsserted : Taken → Bool

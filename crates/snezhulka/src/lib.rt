@@ -1,21 +1,25 @@
-// The replay, the engine, the register image and the rewriter for programs in C and Rust: slices in, a number out.
+// The replay, the engine, the register image, the rewriter and the alert search for programs in C and Rust: slices in, a number out.
 // A slice is passed as pointer and number of elements; no pointer may be null, and two of one call may not overlap:
 // size_t snezhulka_replay(const uint8_t *text, size_t text_len, uint8_t *report, size_t report_len);
 // size_t snezhulka_steps(const int32_t *numbers, size_t count, uint8_t *outcomes, size_t outcomes_len);
 // size_t snezhulka_image(const int32_t *numbers, size_t count, uint8_t *image, size_t image_len);
 // size_t snezhulka_rewrite(const uint8_t *text, size_t text_len, uint8_t *copy, size_t copy_len);
 // size_t snezhulka_wrong_line(const uint8_t *text, size_t text_len, uint8_t *line, size_t line_len);
+// uint8_t snezhulka_alert(struct snezhulka_alert_entry *row, size_t count, uint8_t *data);
+use event::AlertEntry;
+use event::Answer;
 ghost use mathlib.Core.Path.{_≡_};
 ghost use lib.ListN.{length, take};
 ghost use lib.Seq.{sets};
 ghost use Rattle.event.specs.Answers.{numberOf};
+ghost use Rattle.rules.specs.AlertRow.{rowAnswer, rowAfter};
 ghost use Rattle.buffer.specs.Put.{putOf, heldOf, endOf};
 ghost use Rattle.player.specs.Report.{replayAnswer, replayBuffer};
 ghost use Rattle.stepper.specs.Steps.{stepsAnswer, stepsBuffer};
 ghost use Rattle.imager.specs.Image.{imageAfter, imageLeft};
 ghost use Rattle.rewriter.specs.Rewritten.{copyEnd};
 ghost use Rattle.rewriter.specs.Wrong.{wrongLine};
-ghost use Rattle.snezhulka.specs.Exported.{noLength};
+ghost use Rattle.snezhulka.specs.Exported.{noLength, dataLeft};
 
 // What a refusal is told by: the largest number.
 const REFUSED: usize = 18446744073709551615;
@@ -29,7 +33,7 @@ pub extern "C" fn snezhulka_replay(text: &[u8], report: &mut [u8]) -> usize
     buffer::end_of(player::replay(text, report), REFUSED)
 }
 
-// Events as four numbers each: the kind from 0 (power) to 8 (period) in the order of the trace format, who, arg, val.
+// Events as four numbers each: the kind from 0 (power) to 9 (alert) in the order of the trace format, who, arg, val.
 // Outcomes as seven bytes each, in the order of the report: how many bytes, up to the first event of another kind; or the
 // largest number, where the numbers are no whole events or the buffer is too short for all, and the buffer as it was.
 #[no_mangle]
@@ -69,4 +73,27 @@ pub extern "C" fn snezhulka_wrong_line(text: &[u8], line: &mut [u8]) -> usize
     ensures { λ _. ⌜ now (line .exit) ≡ heldOf (now (line .entry)) 0 (wrongLine (now (text .entry))) ⌝ }
 {
     buffer::end_of(rewriter::wrong_line(text, line), REFUSED)
+}
+
+// What the caller's byte holds then: the data where it is done, else what it held.
+fn data_left(a: Answer, was: u8) -> u8
+    ensures { λ r. ⌜ r ≡ dataLeft a was ⌝ }
+{
+    match a {
+        Answer::Done(d) => d,
+        Answer::Refused(_) => was,
+    }
+}
+
+// The search at the alert response address, 0x0C, over a row of entries, `struct { uint8_t address; bool asserting; }`: the reply
+// number, 0, 6 or 12. For 0 the lowest address that asserts is put into `data` and let go in the row; else both stay as they were.
+#[no_mangle]
+pub extern "C" fn snezhulka_alert(row: &mut [AlertEntry], data: &mut u8) -> u8
+    ensures { λ r. ⌜ (r ≡ numberOf (rowAnswer (now (row .entry))))
+        × (now (row .exit) ≡ rowAfter (now (row .entry)))
+        × (now («data» .exit) ≡ dataLeft (rowAnswer (now (row .entry))) (now («data» .entry))) ⌝ }
+{
+    let answer = alert::respond(row);
+    *data = data_left(answer, *data);
+    event::number_of(answer)
 }

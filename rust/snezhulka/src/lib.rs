@@ -1,5 +1,6 @@
 //! Safe calls of the proved fan keeper: a trace text in and a report out, or events in and outcomes or a register
-//! image out; a trace text read and written again; and its first wrong line.
+//! image out; a trace text read and written again; its first wrong line; and who pulled an alert line that several
+//! keepers share.
 
 use std::fmt;
 
@@ -7,6 +8,8 @@ use std::fmt;
 pub const LONGEST_TEXT: usize = 65_536;
 
 mod library {
+    use super::AlertEntry;
+
     extern "C" {
         // How long the report is, or usize::MAX where text or buffer has the wrong size.
         pub fn snezhulka_replay(
@@ -48,6 +51,9 @@ mod library {
             line: *mut u8,
             line_len: usize,
         ) -> usize;
+
+        // The reply number of the search through a row; the address in `data` where that is 0.
+        pub fn snezhulka_alert(row: *mut AlertEntry, count: usize, data: *mut u8) -> u8;
     }
 }
 
@@ -89,7 +95,7 @@ pub fn report_of(text: &[u8]) -> Vec<u8> {
     report
 }
 
-/// An event: its kind, from 0 (power) to 8 (period) in the order of the trace format, who, arg and val.
+/// An event: its kind, from 0 (power) to 9 (alert) in the order of the trace format, who, arg and val.
 pub type Event = [i32; 4];
 
 /// What a report says of an event: answer, data, int, therm, fault, duty1, duty2.
@@ -155,6 +161,29 @@ pub fn wrong_line(text: &[u8], line: &mut [u8]) -> Result<usize, WrongSize> {
         Err(WrongSize)
     } else {
         Ok(end)
+    }
+}
+
+/// A keeper on a shared alert line: its address, 44 to 46, and whether it asserts the line.
+#[repr(C)]
+#[derive(Clone, Copy, Debug, PartialEq, Eq)]
+pub struct AlertEntry {
+    pub address: u8,
+    pub asserting: bool,
+}
+
+/// Answers a read of the SMBus alert response address, 0x0C: gives the lowest address in `row` that asserts the line, and
+/// its entry asserts no more; give that keeper the event alert. Or gives the reply number: 6 where an address is outside
+/// 44 to 46; else 12 where no entry asserts, also where there is none, or two have one address, asserting or not. Then no
+/// entry of `row` has changed.
+pub fn alert(row: &mut [AlertEntry]) -> Result<u8, u8> {
+    let mut address = 0;
+    // Safety: as in `replay`; `address` is alive, and no part of the row.
+    let number = unsafe { library::snezhulka_alert(row.as_mut_ptr(), row.len(), &mut address) };
+    if number == 0 {
+        Ok(address)
+    } else {
+        Err(number)
     }
 }
 

@@ -1,6 +1,6 @@
 use super::{
-    image, library, replay, report_of, rewrite, steps, wrong_line, Event, WrongSize, IMAGE_LENGTH,
-    LONGEST_TEXT,
+    alert, image, library, replay, report_of, rewrite, steps, wrong_line, AlertEntry, Event,
+    WrongSize, IMAGE_LENGTH, LONGEST_TEXT,
 };
 
 // Power, a clock event and a write to a foreign address.
@@ -119,7 +119,7 @@ fn numbers_that_are_no_whole_event_are_refused() {
 
 #[test]
 fn steps_end_where_a_kind_is_none() {
-    for kind in [-1, 9, i32::MIN, i32::MAX] {
+    for kind in [-1, 10, i32::MIN, i32::MAX] {
         let mut events = EVENTS;
         events[1][0] = kind;
         let mut outcomes = [[0xaa; 7]; 3];
@@ -158,7 +158,7 @@ fn image_after_power_has_the_reset_bytes() {
 
 #[test]
 fn image_that_is_refused_leaves_the_buffer() {
-    let foreign: Event = [9, 0, 0, 0];
+    let foreign: Event = [10, 0, 0, 0];
     let cases: [(&[Event], usize, u8); 4] = [
         (&[], IMAGE_LENGTH, 1),
         (&[], IMAGE_LENGTH - 1, 1),
@@ -237,4 +237,59 @@ fn a_wrong_line_that_does_not_fit_leaves_the_buffer() {
     assert_eq!(line, [0xaa; 5]);
     assert_eq!(wrong_line(b"kind=", &mut line), Ok(5));
     assert_eq!(&line, b"kind=");
+}
+
+// A row of addresses, each with whether it asserts.
+fn row_of<const N: usize>(entries: [(u8, bool); N]) -> [AlertEntry; N] {
+    entries.map(|(address, asserting)| AlertEntry { address, asserting })
+}
+
+#[test]
+fn alerts_are_events() {
+    // INT comes with the local high bit, goes with the alert and stays away while the bit is set again.
+    let hot: Event = [4, 0, 0, 488];
+    let own: Event = [9, 44, 0, 0];
+    let events = [POWER, [1, 44, 0, 0x93], hot, [9, 45, 0, 0], own, hot, own];
+    let mut outcomes = [[0xaa; 7]; 7];
+    assert_eq!(steps(&events, &mut outcomes), Ok(7));
+    let answers_and_int = outcomes.map(|outcome| (outcome[0], outcome[2]));
+    assert_eq!(
+        answers_and_int,
+        [(0, 0), (0, 0), (0, 1), (2, 1), (0, 0), (0, 0), (0, 0)]
+    );
+}
+
+#[test]
+fn the_lowest_address_that_asserts_is_let_go() {
+    let mut row = row_of([(46, true), (44, false), (45, true)]);
+    assert_eq!(alert(&mut row), Ok(45));
+    assert_eq!(row, row_of([(46, true), (44, false), (45, false)]));
+    assert_eq!(alert(&mut row), Ok(46));
+    assert_eq!(row, row_of([(46, false), (44, false), (45, false)]));
+    assert_eq!(alert(&mut row), Err(12));
+}
+
+#[test]
+fn a_row_that_is_refused_stays_as_it_was() {
+    let rows = [
+        (row_of([(44, true), (43, false)]), 6),
+        (row_of([(47, true), (47, true)]), 6),
+        (row_of([(44, false), (45, false)]), 12),
+        (row_of([(46, true), (46, false)]), 12),
+    ];
+    for (before, number) in rows {
+        let mut row = before;
+        assert_eq!(alert(&mut row), Err(number), "{before:?}");
+        assert_eq!(row, before);
+    }
+    assert_eq!(alert(&mut []), Err(12));
+}
+
+#[test]
+fn data_of_a_row_that_is_refused_stays_as_it_was() {
+    let mut row = row_of([(44, true), (44, false)]);
+    let mut data = 0xaa;
+    // Safety: the row goes with its own length, and `data` is no part of it.
+    let number = unsafe { library::snezhulka_alert(row.as_mut_ptr(), row.len(), &mut data) };
+    assert_eq!((number, data), (12, 0xaa));
 }

@@ -1,5 +1,6 @@
 //! What the compared traces and reports have reached.
 
+use crate::alerts::{self, Alerts};
 use crate::offsets::{Offsets, CASES};
 use snezhulka::Event;
 
@@ -16,6 +17,7 @@ pub struct Coverage {
     fault: u64,
     duties: [bool; FULL_DUTY + 1],
     samples: [[u64; 3]; CASES.len()],
+    alerts: [u64; alerts::CASES.len()],
 }
 
 impl Coverage {
@@ -30,12 +32,14 @@ impl Coverage {
             fault: 0,
             duties: [false; FULL_DUTY + 1],
             samples: [[0; 3]; CASES.len()],
+            alerts: [0; alerts::CASES.len()],
         }
     }
 
-    /// Counts the lines of one report, and what the samples meet where every line of the trace is right.
+    /// Counts the lines of one report, and what samples and alerts meet where every line of the trace is right.
     pub fn count(&mut self, events: Option<&[Event]>, report: &[u8]) {
         self.traces += 1;
+        self.count_alerts(events.unwrap_or_default());
         let mut events = events.unwrap_or_default().iter();
         let mut offsets = Offsets::none();
         for line in report.split(|&byte| byte == b'\n') {
@@ -75,6 +79,15 @@ impl Coverage {
         }
     }
 
+    fn count_alerts(&mut self, events: &[Event]) {
+        let mut alerts = Alerts::none();
+        for met in events.iter().filter_map(|event| alerts.take(event)) {
+            for (count, met) in self.alerts.iter_mut().zip(met) {
+                *count += u64::from(met);
+            }
+        }
+    }
+
     pub fn add(&mut self, other: &Coverage) {
         self.traces += other.traces;
         self.events += other.events;
@@ -89,6 +102,9 @@ impl Coverage {
         }
         let sums = self.samples.as_flattened_mut().iter_mut();
         for (sum, more) in sums.zip(other.samples.as_flattened()) {
+            *sum += more;
+        }
+        for (sum, more) in self.alerts.iter_mut().zip(other.alerts) {
             *sum += more;
         }
     }
@@ -108,6 +124,10 @@ impl Coverage {
         println!("samples of the channels 0, 1, 2, by their offsets:");
         for (case, [local, first, second]) in CASES.iter().zip(self.samples) {
             println!("{case:<15} {local:>10} {first:>10} {second:>10}");
+        }
+        println!("alerts, and events while INT is let go:");
+        for (case, count) in alerts::CASES.iter().zip(self.alerts) {
+            println!("{case:<26} {count:>10}");
         }
     }
 
@@ -134,6 +154,11 @@ impl Coverage {
         for (case, counts) in CASES.iter().zip(self.samples) {
             for channel in (0..3).filter(|&channel| counts[channel] == 0) {
                 missing.push(format!("a sample of channel {channel}, {case}"));
+            }
+        }
+        for (case, count) in alerts::CASES.iter().zip(self.alerts) {
+            if count == 0 {
+                missing.push(case.to_string());
             }
         }
         missing
@@ -184,7 +209,19 @@ mod tests {
     }
 
     #[test]
+    fn counts_alerts_by_the_events_alone() {
+        let (power, own, foreign) = ([0, 44, 0, 0], [9, 44, 0, 0], [9, 45, 0, 0]);
+        let mut coverage = Coverage::none();
+        coverage.count(Some(&[own, power, own, foreign, foreign]), b"");
+        assert_eq!(coverage.alerts, [0, 1, 0, 1, 2, 0, 0, 0, 0, 0, 0, 0]);
+        let mut twice = Coverage::none();
+        twice.add(&coverage);
+        twice.add(&coverage);
+        assert_eq!(twice.alerts, [0, 2, 0, 2, 4, 0, 0, 0, 0, 0, 0, 0]);
+    }
+
+    #[test]
     fn nothing_reached_is_missing() {
-        assert_eq!(Coverage::none().missing().len(), 34);
+        assert_eq!(Coverage::none().missing().len(), 46);
     }
 }

@@ -4,8 +4,8 @@ use second::keeper::Kind;
 use snezhulka::{Event, Outcome};
 use std::io::Write;
 
-const KINDS: [&str; 9] = [
-    "power", "write", "point", "read", "sample", "tach", "pin", "clock", "period",
+const KINDS: [&str; 10] = [
+    "power", "write", "point", "read", "sample", "tach", "pin", "clock", "period", "alert",
 ];
 const FIELDS: [&str; 7] = ["answer", "data", "int", "therm", "fault", "duty1", "duty2"];
 
@@ -63,7 +63,7 @@ fn put_outcome(report: &mut Vec<u8>, outcome: &Outcome) {
 
 /// An event as the second program takes it.
 pub fn second_event(&[kind, who, arg, val]: &Event) -> second::keeper::Event {
-    const KINDS: [Kind; 9] = [
+    const KINDS: [Kind; 10] = [
         Kind::Power,
         Kind::Write,
         Kind::Point,
@@ -73,6 +73,7 @@ pub fn second_event(&[kind, who, arg, val]: &Event) -> second::keeper::Event {
         Kind::Pin,
         Kind::Clock,
         Kind::Period,
+        Kind::Alert,
     ];
     second::keeper::Event {
         kind: KINDS[kind as usize],

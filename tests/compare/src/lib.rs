@@ -1,5 +1,6 @@
 //! Random traces, and what the comparison and the benchmark need beside them.
 
+pub mod alerts;
 pub mod coverage;
 pub mod events;
 pub mod images;
@@ -7,5 +8,6 @@ pub mod lines;
 pub mod offsets;
 pub mod program;
 pub mod random;
+pub mod rows;
 pub mod shrink;
 pub mod traces;

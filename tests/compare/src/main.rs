@@ -1,9 +1,9 @@
-//! Compares the proved keeper with the second program, byte for byte, over random traces.
+//! Compares the proved keeper with the second program, byte for byte, over random traces and rows of alert entries.
 //!
 //! compare [--traces N] [--seed S] [--program PATH]
 
 use compare::coverage::Coverage;
-use compare::{events, images, lines, program, shrink, traces};
+use compare::{events, images, lines, program, rows, shrink, traces};
 use std::process::ExitCode;
 use std::sync::atomic::{AtomicBool, AtomicU64, Ordering};
 use std::thread;
@@ -271,6 +271,7 @@ fn compare_program(path: &str, seed: u64) -> Result<(), String> {
 
 fn run() -> Result<(), String> {
     let arguments = arguments()?;
+    let rows = rows::compare(arguments.seed)?;
     let finding = compare_all(&arguments);
     if let Some(index) = finding.different {
         return Err(explain_in_process(arguments.seed, index));
@@ -292,6 +293,7 @@ fn run() -> Result<(), String> {
         "first wrong lines that are none or empty, put, too long: {:?}",
         finding.lines
     );
+    println!("rows of alert entries answered 0, 6, 12: {rows:?} times");
     println!(
         "compared {} traces, {} events, all alike; {} of the traces with the engine alone too",
         coverage.traces, coverage.events, finding.engine_traces

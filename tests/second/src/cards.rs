@@ -2,6 +2,7 @@
 
 use crate::keeper::{Event, Keeper, Kind, Reply};
 use crate::replay;
+use crate::row::{search, Entry};
 
 struct Bench(Keeper);
 
@@ -46,6 +47,20 @@ impl Bench {
         let reply = self.ev(Kind::Sample, channel, 0, t);
         assert_eq!(reply.answer, 0);
         reply
+    }
+
+    fn alert(&mut self) -> Reply {
+        let reply = self.ev(Kind::Alert, 44, 0, 0);
+        assert_eq!((reply.answer, reply.data, reply.int), (0, 0, false));
+        reply
+    }
+
+    // with INT enabled, and asserted by the local high bit
+    fn alarmed() -> Self {
+        let mut bench = Bench::new();
+        bench.write(0x00, 0x93);
+        assert!(bench.sample(0, 488).int);
+        bench
     }
 
     fn tach(&mut self, count: i32) -> Reply {
@@ -97,6 +112,12 @@ fn block(answer: i32) -> String {
 fn worked_example() {
     let text = lines(&["power 44 0 0", "clock 0 0 0", "write 45 0 0"]);
     assert_eq!(report(&text), block(0) + &block(0) + &block(2));
+}
+
+#[test]
+fn an_alert_in_text() {
+    let text = lines(&["alert 44 0 0", "power 44 0 0", "alert 44 0 0"]);
+    assert_eq!(report(&text), block(1) + &block(0) + &block(0));
 }
 
 #[test]
@@ -250,6 +271,113 @@ fn reset_with_the_pin_low() {
 }
 
 #[test]
+fn an_alert_lets_int_go_and_nothing_else() {
+    let mut bench = Bench::alarmed();
+    let (mut before, mut after) = ([0; 64], [0; 64]);
+    bench.0.image(&mut before);
+    let reply = bench.alert();
+    bench.0.image(&mut after);
+    assert_eq!(
+        (reply.therm, reply.fault, reply.duty),
+        (false, false, [0, 0])
+    );
+    assert_eq!((before, before[0x02]), (after, 0x40));
+    assert_eq!(bench.ev(Kind::Read, 44, 0, 0).data, 0x93);
+}
+
+#[test]
+fn only_a_rise_brings_int_back() {
+    let mut bench = Bench::alarmed();
+    bench.alert();
+    assert!(!bench.sample(0, 490).int);
+    assert!(!bench.write(0x00, 0x91).int);
+    assert!(!bench.write(0x00, 0x93).int);
+    assert!(!bench.write(0x01, 0x5F).int);
+    assert!(!bench.write(0x01, 0x7F).int);
+    assert_eq!(bench.read(0x02), 0x40);
+    assert!(bench.sample(0, 490).int);
+    bench.alert();
+    assert!(bench.ev(Kind::Pin, 0, 0, 0).int);
+    bench.alert();
+    assert!(!bench.ev(Kind::Pin, 0, 0, 1).int);
+    assert!(!bench.ev(Kind::Pin, 0, 0, 0).int);
+    assert_eq!((bench.read(0x02), bench.read(0x03)), (0x41, 0x81));
+}
+
+#[test]
+fn a_rise_that_the_enable_bit_hides_counts() {
+    let mut bench = Bench::alarmed();
+    bench.alert();
+    bench.write(0x00, 0x91);
+    assert!(!bench.sample(1, -8).int);
+    assert!(bench.write(0x00, 0x93).int);
+}
+
+#[test]
+fn an_alert_with_int_not_asserted_changes_nothing() {
+    let mut bench = Bench::alarmed();
+    bench.write(0x00, 0x91);
+    let before = bench.0.clone();
+    bench.alert();
+    assert!(bench.0 == before);
+    assert!(bench.write(0x00, 0x93).int);
+    bench.alert();
+    let before = bench.0.clone();
+    bench.alert();
+    assert!(bench.0 == before);
+}
+
+#[test]
+fn reset_and_power_end_an_alert() {
+    for (kind, arg, val) in [(Kind::Write, 0x01, 0x80), (Kind::Power, 1, 0)] {
+        let mut bench = Bench(Keeper::new());
+        bench.ev(Kind::Power, 44, 1, 0);
+        assert!(bench.write(0x00, 0x93).int);
+        bench.alert();
+        assert!(!bench.write(0x00, 0x93).int);
+        assert_eq!(bench.ev(kind, 44, arg, val).answer, 0);
+        assert!(bench.write(0x00, 0x93).int);
+    }
+}
+
+// a row as address and 1 where the entry asserts; the answer, and the row after it
+fn searched<const N: usize>(row: [(u8, u8); N]) -> (Result<u8, u8>, [(u8, u8); N]) {
+    let mut row = row.map(|(address, asserting)| Entry {
+        address,
+        asserting: asserting == 1,
+    });
+    let answer = search(&mut row);
+    (answer, row.map(|e| (e.address, u8::from(e.asserting))))
+}
+
+#[test]
+fn the_lowest_that_asserts_is_let_go() {
+    assert_eq!(searched([(46, 1)]), (Ok(46), [(46, 0)]));
+    assert_eq!(
+        searched([(46, 1), (44, 0), (45, 1)]),
+        (Ok(45), [(46, 1), (44, 0), (45, 0)])
+    );
+    assert_eq!(
+        searched([(45, 1), (46, 1), (44, 1)]),
+        (Ok(44), [(45, 1), (46, 1), (44, 0)])
+    );
+}
+
+#[test]
+fn a_row_that_is_refused_stays() {
+    fn refused<const N: usize>(row: [(u8, u8); N], number: u8) {
+        assert_eq!(searched(row), (Err(number), row));
+    }
+    refused([], 12);
+    refused([(44, 0), (45, 0)], 12);
+    refused([(44, 0), (45, 1), (44, 0)], 12);
+    refused([(46, 1), (46, 1)], 12);
+    refused([(44, 1), (47, 0)], 6);
+    refused([(43, 0), (43, 0)], 6);
+    refused([(44, 1), (45, 1), (44, 1), (255, 1)], 6);
+}
+
+#[test]
 fn refusals() {
     let cards = [
         (Kind::Power, 43, 0, 0, 6),
@@ -271,9 +399,14 @@ fn refusals() {
         (Kind::Pin, 1, 0, 0, 6),
         (Kind::Clock, 0, 0, 1, 6),
         (Kind::Period, i32::MIN, 1, 0, 3),
+        (Kind::Alert, 12, 0, 0, 2),
+        (Kind::Alert, 45, 1, 0, 2),
+        (Kind::Alert, 44, 1, 0, 6),
+        (Kind::Alert, 44, 0, -1, 6),
     ];
     let mut bench = Bench(Keeper::new());
     assert_eq!(bench.ev(Kind::Clock, 1, 0, 0).answer, 1);
+    assert_eq!(bench.ev(Kind::Alert, 44, 1, 0).answer, 1);
     bench.ev(Kind::Power, 44, 0, 0);
     let before = bench.0.clone();
     for (kind, who, arg, val, answer) in cards {
@@ -297,6 +430,7 @@ fn malformed_text() {
     wrong("\n", 1);
     wrong("kind=clock", 1);
     wrong("kind=clocks\n", 1);
+    wrong("kind=alerts\n", 1);
     wrong("kind=clock\n", 2);
     wrong("kind=clock\nwho=0\narg=0\nval=0", 4);
     wrong("kind=clock\nwho=0\narg=0\nval=0\n\n", 5);

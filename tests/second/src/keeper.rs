@@ -2,6 +2,7 @@
 //! Channels count 0 local, 1 and 2 remote. Fans count 0 and 1 in here.
 
 mod acts;
+mod alerts;
 mod counts;
 mod fans;
 mod fields;
@@ -19,6 +20,7 @@ pub enum Kind {
     Pin,
     Clock,
     Period,
+    Alert,
 }
 
 #[derive(Clone, Copy, PartialEq, Eq, Debug)]
@@ -53,6 +55,7 @@ pub struct Keeper {
     spin_up: [u8; 2], // clock events that remain
     alarm: [bool; 2],
     duty: [i32; 2],
+    silenced: bool, // an alert has let INT go
 }
 
 impl Default for Keeper {
@@ -76,6 +79,7 @@ impl Keeper {
             spin_up: [0; 2],
             alarm: [false; 2],
             duty: [0; 2],
+            silenced: false,
         }
     }
 
@@ -84,9 +88,11 @@ impl Keeper {
         let answer = self.refusal(e);
         let mut data = 0;
         if answer == 0 {
+            let before = self.status_bits();
             data = self.act(e);
             self.settle(0, e);
             self.settle(1, e);
+            self.rearm(before);
         }
         Reply {
             answer,

@@ -1,7 +1,9 @@
 //! A replay of fan controller traces: the chip is in `keeper`, its register
-//! table in `table`, the trace reader and the report in `text`.
+//! table in `table`, the trace reader and the report in `text`; the search of
+//! several keepers on one line in `row`.
 
 pub mod keeper;
+pub mod row;
 pub mod table;
 pub mod text;
 

@@ -86,7 +86,7 @@ impl<'a> Reader<'a> {
     }
 }
 
-// "kinds as above"
+// "kinds as above"; T-02 adds the last
 fn kind(word: &[u8]) -> Option<Kind> {
     match word {
         b"power" => Some(Kind::Power),
@@ -98,6 +98,7 @@ fn kind(word: &[u8]) -> Option<Kind> {
         b"pin" => Some(Kind::Pin),
         b"clock" => Some(Kind::Clock),
         b"period" => Some(Kind::Period),
+        b"alert" => Some(Kind::Alert),
         _ => None,
     }
 }

@@ -11,6 +11,9 @@ is-a-requires-2 c κs = search needs
 is-a-requires-3 : tie.Need-is-a-requires-3
 is-a-requires-3 c κs = search needs
 
+is-a-requires-4 : tie.Need-is-a-requires-4
+is-a-requires-4 c κs = search needs
+
 cast-result : tie.Need-cast-result
 cast-result c = search needs
 
@@ -19,4 +22,4 @@ returns c = cc
 
 pub other-address-spec : {M : Type 1} → statement M
 other-address-spec =
-    tie.close (tie.spec is-a-requires is-a-requires-2 is-a-requires-3 cast-result returns)
+    tie.close (tie.spec is-a-requires is-a-requires-2 is-a-requires-3 is-a-requires-4 cast-result returns)

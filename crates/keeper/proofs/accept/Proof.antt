@@ -6,8 +6,8 @@ use Rattle.keeper.proofs.accept.Tie as tie
 data-for-requires : tie.Need-data-for-requires
 data-for-requires c κs = search needs
 
-chip-after-requires : tie.Need-chip-after-requires
-chip-after-requires c κs = search needs
+device-after-requires : tie.Need-device-after-requires
+device-after-requires c κs = search needs
 
 shown-requires : tie.Need-shown-requires
 shown-requires c κs = search needs
@@ -16,4 +16,4 @@ returns : tie.Need-returns
 returns c = search accept-is
 
 pub accept-spec : {M : Type 1} → statement M
-accept-spec = tie.close (tie.spec data-for-requires chip-after-requires shown-requires returns)
+accept-spec = tie.close (tie.spec data-for-requires device-after-requires shown-requires returns)

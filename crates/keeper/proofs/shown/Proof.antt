@@ -1,4 +1,4 @@
-use Rattle.keeper.proofs.Laws.{shown-off, shown-chip}
+use Rattle.keeper.proofs.Laws.{shown-off, shown-on}
 use borrow.Author.Needs.{needs}
 use Rattle.keeper.proofs.shown.Statement.{statement}
 use Rattle.keeper.proofs.shown.Tie as tie
@@ -16,7 +16,7 @@ returns : tie.Need-returns
 returns c = search shown-off
 
 returns-2 : tie.Need-returns-2
-returns-2 c = search shown-chip
+returns-2 c = search shown-on
 
 pub shown-spec : {M : Type 1} → statement M
 shown-spec = tie.close (tie.spec enum-told enum-known-k shown-requires returns returns-2)

@@ -3,8 +3,8 @@ use borrow.Author.Needs.{needs}
 use Rattle.keeper.proofs.step.Statement.{statement}
 use Rattle.keeper.proofs.step.Tie as tie
 
-chip-in-requires : tie.Need-chip-in-requires
-chip-in-requires c κs = search needs
+device-in-requires : tie.Need-device-in-requires
+device-in-requires c κs = search needs
 
 input-of-requires : tie.Need-input-of-requires
 input-of-requires c κs = search needs
@@ -28,7 +28,7 @@ pub step-spec : {M : Type 1} → statement M
 step-spec =
     tie.close
     (tie.spec
-    chip-in-requires
+    device-in-requires
     input-of-requires
     is-on-requires
     standing-requires

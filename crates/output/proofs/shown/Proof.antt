@@ -3,8 +3,8 @@ use borrow.Author.Needs.{needs}
 use Rattle.output.proofs.shown.Statement.{statement}
 use Rattle.output.proofs.shown.Tie as tie
 
-int-requires : tie.Need-int-requires
-int-requires c κs = search needs
+int-due-requires : tie.Need-int-due-requires
+int-due-requires c κs = search needs
 
 flag-requires : tie.Need-flag-requires
 flag-requires c κs = search needs
@@ -28,7 +28,7 @@ pub shown-spec : {M : Type 1} → statement M
 shown-spec =
     tie.close
     (tie.spec
-    int-requires
+    int-due-requires
     flag-requires
     therm-requires
     flag-requires-2

@@ -1,4 +1,4 @@
-//! Traces of a keeper that is set up and used: they reach latches, ramps, spin-ups, faults and resets.
+//! Traces of a keeper that is set up and used: they reach latches, ramps, spin-ups, faults, resets and alerts.
 
 use super::{any_number, Text, KINDS, REGISTERS};
 use crate::random::Random;
@@ -6,7 +6,11 @@ use crate::random::Random;
 /// Bytes of 0x00 with monitoring on, the more telling ones twice.
 const MODES: [i32; 9] = [0x11, 0x13, 0x91, 0x93, 0x93, 0xb3, 0xd3, 0xf3, 0xf3];
 
-/// What stays the same through one trace, and what was last sampled, and written as its offset, on each channel.
+/// The bit of 0x00 that enables INT.
+const INT_ENABLE: i32 = 0x02;
+
+/// What stays the same through one trace, and what was last written to 0x00, sampled, and written as its offset, on each
+/// channel.
 struct Guide<'a> {
     random: &'a mut Random,
     text: Text,
@@ -16,6 +20,7 @@ struct Guide<'a> {
     start: i32,
     swing: i32,
     ends: usize,
+    mode: i32,
     samples: [i32; 3],
     offsets: [i32; 3],
 }
@@ -34,6 +39,7 @@ pub fn guided(random: &mut Random, most: usize) -> Vec<u8> {
         start,
         swing: random.pick(&[10, 40, 150]),
         ends: random.pick(&[0, 4, 25]),
+        mode: 0x90,
         samples: [start; 3],
         offsets: [0; 3],
         text: Text::new(),
@@ -57,6 +63,9 @@ impl Guide<'_> {
     fn write(&mut self, register: i32, byte: i32) {
         if let 0x0d..=0x0f = register {
             self.offsets[register as usize - 0x0d] = byte;
+        }
+        if register == 0x00 {
+            self.mode = byte;
         }
         self.text.add("write", self.address, register, byte);
     }
@@ -148,7 +157,7 @@ impl Guide<'_> {
     }
 
     /// How often each step comes, in the order of `step`.
-    fn weights(&mut self) -> [usize; 11] {
+    fn weights(&mut self) -> [usize; 12] {
         [
             self.random.pick(&[20, 60, 120]),
             self.random.pick(&[20, 80]),
@@ -160,6 +169,7 @@ impl Guide<'_> {
             self.random.pick(&[0, 6, 30]),
             self.random.pick(&[0, 0, 1]),
             self.random.pick(&[0, 10, 30]),
+            self.random.pick(&[0, 0, 6, 25]),
             self.random.pick(&[0, 2]),
         ]
     }
@@ -182,6 +192,7 @@ impl Guide<'_> {
             7 => self.write_any(),
             8 => self.restart(),
             9 => self.offset(),
+            10 => self.alert(),
             _ => self.odd(),
         }
     }
@@ -231,6 +242,71 @@ impl Guide<'_> {
         if self.random.percent(50) {
             self.add_sample(channel, self.samples[channel]);
         }
+    }
+
+    /// An alert, most often at the own address, and what comes after it.
+    fn alert(&mut self) {
+        let (other, number) = (self.random.pick(&[12, 44, 45, 46]), any_number(self.random));
+        let who = match self.random.percent(90) {
+            true => self.address,
+            false => self.random.pick(&[other, other, number]),
+        };
+        let (arg, val) = match self.random.percent(92) {
+            true => (0, 0),
+            false => self
+                .random
+                .pick(&[(1, 0), (0, 1), (number, 0), (0, number)]),
+        };
+        self.text.add("alert", who, arg, val);
+        self.after_alert();
+    }
+
+    /// What may bring INT back, or must not.
+    fn after_alert(&mut self) {
+        match self.random.weighted(&[6, 3, 3, 3, 3, 1, 1, 10]) {
+            0 => self.sample_again(),
+            1 => self.collect(),
+            2 => {
+                self.collect();
+                self.sample_again();
+            }
+            3 => self.toggle_int(),
+            4 => self.toggle_channel(),
+            5 => self.restart(),
+            6 => self.text.add("pin", 0, 0, self.random.between(0, 1)),
+            _ => {}
+        }
+    }
+
+    /// The last sample of a channel once more: where it sets a bit, that bit is 1 unless it was read away.
+    fn sample_again(&mut self) {
+        let channel = self.random.below(3);
+        self.add_sample(channel, self.samples[channel]);
+    }
+
+    /// Reads one status register or both, and so clears them.
+    fn collect(&mut self) {
+        for register in self.random.pick(&[&[2][..], &[3], &[2, 3]]) {
+            self.text.add("point", self.address, *register, 0);
+            self.text.add("read", self.address, 0, 0);
+        }
+    }
+
+    /// INT disabled and enabled again; now and then a sample between.
+    fn toggle_int(&mut self) {
+        let mode = self.mode;
+        self.write(0x00, mode & !INT_ENABLE);
+        if self.random.percent(30) {
+            self.sample_again();
+        }
+        self.write(0x00, mode | INT_ENABLE);
+    }
+
+    /// A channel disabled, which clears its bits, and enabled again.
+    fn toggle_channel(&mut self) {
+        let one_off = 0x7f & !(0x10 << self.random.below(3));
+        self.write(0x01, one_off);
+        self.write(0x01, 0x7f);
     }
 
     fn tach(&mut self) {

@@ -16,6 +16,7 @@ impl Keeper {
             Kind::Pin => self.pin(e.val == 0),
             Kind::Clock => self.count_down(),
             Kind::Period => {}
+            Kind::Alert => self.alert(),
         }
         0
     }

@@ -4,7 +4,7 @@ use super::Keeper;
 use crate::table::*;
 
 impl Keeper {
-    // temperatures 8
+    // temperatures 8, with T-02: not while an alert has let it go
     pub(super) fn int(&self) -> bool {
         let counted = |status: usize, channel: usize| {
             let mask = if self.channel_enabled(channel) {
@@ -14,7 +14,7 @@ impl Keeper {
             };
             self.regs[status] & mask != 0
         };
-        self.bit(CONFIG_1, 1) && (counted(STATUS_1, 1) || counted(STATUS_2, 2))
+        !self.silenced && self.bit(CONFIG_1, 1) && (counted(STATUS_1, 1) || counted(STATUS_2, 2))
     }
 
     // temperatures 2

@@ -14,11 +14,11 @@ impl Keeper {
                 let bad = !(44..=46).contains(&e.who) || !bit_value(e.arg) || !bit_value(e.val);
                 refuse_if(bad, 6)
             }
-            Kind::Write | Kind::Point | Kind::Read if e.who != self.address => 2,
+            Kind::Write | Kind::Point | Kind::Read | Kind::Alert if e.who != self.address => 2,
             Kind::Write => refuse_write(e.arg, e.val),
             Kind::Point if !exists(e.arg) => 4,
             Kind::Point => refuse_if(e.val != 0, 6),
-            Kind::Read => refuse_if(e.arg != 0 || e.val != 0, 6),
+            Kind::Read | Kind::Alert => refuse_if(e.arg != 0 || e.val != 0, 6),
             Kind::Sample => self.refuse_sample(e),
             Kind::Tach => self.refuse_tach(e),
             Kind::Pin => refuse_if(e.who != 0 || e.arg != 0 || !bit_value(e.val), 6),

@@ -1,7 +1,7 @@
-use Rattle.output.proofs.Laws.{int-is}
+use Rattle.output.proofs.Laws.{due-is}
 use borrow.Author.Needs.{needs}
-use Rattle.output.proofs.int.Statement.{statement}
-use Rattle.output.proofs.int.Tie as tie
+use Rattle.output.proofs.int_due.Statement.{statement}
+use Rattle.output.proofs.int_due.Tie as tie
 
 channel-enabled-requires : tie.Need-channel-enabled-requires
 channel-enabled-requires c κs = search needs
@@ -25,10 +25,10 @@ is-pending-requires-2 : tie.Need-is-pending-requires-2
 is-pending-requires-2 c κs = search needs
 
 returns : tie.Need-returns
-returns c = search int-is
+returns c = search due-is
 
-pub int-spec : {M : Type 1} → statement M
-int-spec =
+pub int-due-spec : {M : Type 1} → statement M
+int-due-spec =
     tie.close
     (tie.spec
     channel-enabled-requires

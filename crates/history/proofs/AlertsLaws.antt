@@ -1,0 +1,170 @@
+-- An alert lets INT go and changes nothing else of the keeper; no stretch ends at one. Assumes nothing.
+use Prim.Native.Nat.{ℕ}
+use mathlib.Core.Path.{_≡_, refl, sym, ap, _∙_, subst}
+use mathlib.Core.Bool.{true, false, not, _&&_, _||_, or-true, or-false, and-false}
+use mathlib.Core.List.{List, [], _∷_, _++_}
+use native.Mathlib.Omega.{arith}
+use Rattle.integer.specs.Bits.{flagOf}
+use Rattle.integer.proofs.BoolLaws.{by-cases}
+use Rattle.part.specs.declared.ChannelId.{ChannelId}
+use Rattle.part.specs.declared.ChannelId.the-variants.{Local, Remote1, Remote2}
+use Rattle.part.specs.declared.FanId.{FanId}
+use Rattle.part.specs.declared.FanId.the-variants.{One, Two}
+use Rattle.event.specs.Kinds.{isKind}
+use Rattle.event.specs.declared.Event.{Event}
+use Rattle.event.specs.declared.Shown.{Shown}
+use Rattle.event.specs.declared.Kind.the-variants as kind
+use Rattle.rules.specs.Registers.{config2}
+use Rattle.rules.specs.Stored.{Taken, powered, ownAddress, pointer}
+use Rattle.rules.specs.Replies.{History, taken, accepted}
+use Rattle.rules.specs.Targets.{target, overridden}
+use Rattle.rules.specs.Duties.{enabled, atAlarm}
+use Rattle.rules.specs.Shows.{intDue, silenced, intAsserted, shown}
+use Rattle.rules.proofs.TakenLaws.{refused-is, accepted-is}
+use Rattle.rules.proofs.CalmLaws.{Untouched, target-same, override-same}
+use Rattle.rules.proofs.KeptLaws.{BitsKept}
+use Rattle.rules.proofs.AlertLaws as alert
+use Rattle.drive.specs.Ramp.{Inside}
+use Rattle.keeper.specs.Keeping.{shownBy}
+use Rattle.history.specs.Agreement.{run}
+use Rattle.history.specs.Demand3.{disturbs, Settled, Stretch}
+use Rattle.history.specs.MovingTarget.{Within, MovingStretch}
+use Rattle.history.specs.Alerts.{Alerts}
+use Rattle.history.proofs.State.{portBy, channelRegistersBy, fanRegistersBy, registersBy, channelBy, channelsBy, fanBy, chipBy, deviceBy, stateBy}
+use Rattle.history.proofs.Agree.{agree, agreement, chip-run}
+
+-- ---- the chip that the rules describe
+
+module _ (e : Event) (d : Taken) (alerts : isKind kind.Alert e ≡ true) where
+  abbrev u : Untouched e d
+  u = alert.settled e d alerts
+
+  abbrev k : BitsKept e d
+  k = alert.bits e d alerts
+
+  port-same : portBy (e ∷ d) ≡ portBy d
+  unfolding portBy ownAddress pointer
+  port-same =
+      rw (alert.kind-is e d alerts kind.Power, alert.kind-is e d alerts kind.Write, alert.kind-is e d alerts kind.Point, u .pin, k .pulled)
+
+  registers-same : registersBy (e ∷ d) ≡ registersBy d
+  unfolding registersBy channelRegistersBy fanRegistersBy
+  registers-same = simp (alert.byte-kept e d alerts)
+
+  channel-same : (c : ChannelId) → channelBy c (e ∷ d) ≡ channelBy c d
+  unfolding channelBy
+  channel-same c = rw (u .reading c, u .latch c, u .flag c, k .high c, k .low c, k .therm c, k .error c)
+
+  alarm-same : (f : FanId) → atAlarm f (e ∷ d) ≡ atAlarm f d
+  unfolding atAlarm
+  alarm-same f = rw (u .byte config2 refl, override-same e d u)
+
+  fan-same : (f : FanId) → fanBy f (e ∷ d) ≡ fanBy f d
+  unfolding fanBy
+  fan-same f = rw (alert.duty-same e d alerts f, alert.left-same e d alerts f, alert.run-same e d alerts f, alarm-same f, k .alarm f, k .fault f)
+
+  chip-same : chipBy (e ∷ d) ≡ chipBy d
+  unfolding chipBy channelsBy
+  chip-same =
+      rw (port-same, registers-same, channel-same Local, channel-same Remote1, channel-same Remote2, fan-same One, fan-same Two)
+
+-- ---- the keeper
+
+module _ (e : Event) (h : History) (alerts : isKind kind.Alert e ≡ true) where
+  chip-kept : chipBy (taken (e ∷ h)) ≡ chipBy (taken h)
+  chip-kept =
+      by-cases (accepted e h)
+      (λ go. ap chipBy (accepted-is e h go) ∙ chip-same e (taken h) alerts)
+      (λ bad. ap chipBy (refused-is e h bad))
+
+  -- INT not asserted: let go already, or not due, so that it is let go after the alert just if it was before
+  not-begun : shown (taken h) .int ≡ 0 → (silenced (taken h) || intDue (taken h)) ≡ silenced (taken h)
+  unfolding shown intAsserted
+  not-begun z =
+      by-cases (silenced (taken h))
+      (λ s. rw s)
+      (λ s. by-cases (intDue (taken h))
+      (λ y. let one : flagOf (intDue (taken h) && not (silenced (taken h))) ≡ 1 = rw (s, y) in absurd (omega (arith, one, z)))
+      (λ n. rw n (or-false (silenced (taken h)))))
+
+  device-kept : shown (taken h) .int ≡ 0 → deviceBy (taken (e ∷ h)) ≡ deviceBy (taken h)
+  unfolding deviceBy
+  device-kept z =
+      by-cases (accepted e h)
+      (λ go. rw (accepted-is e h go, chip-same e (taken h) alerts, alert.silence-is e (taken h) alerts, not-begun z))
+      (λ bad. rw (refused-is e h bad))
+
+  power-kept : powered (taken (e ∷ h)) ≡ powered (taken h)
+  unfolding powered
+  power-kept =
+      by-cases (accepted e h)
+      (λ go. rw (accepted-is e h go, alert.kind-is e (taken h) alerts kind.Power))
+      (λ bad. rw (refused-is e h bad))
+
+  unchanged : shownBy (run h) .int ≡ 0 → run (e ∷ h) ≡ run h
+  unfolding stateBy
+  unchanged z =
+      agree (e ∷ h)
+      ∙ (rw (device-kept (ap (λ (s : Shown). s .int) (sym (agreement h .shows)) ∙ z), power-kept) refl ∙ sym (agree h))
+
+  -- INT after it
+  let-go : accepted e h ≡ true → shownBy (run (e ∷ h)) .int ≡ 0
+  unfolding shown intAsserted
+  let-go go =
+      ap (λ (s : Shown). s .int) (agreement (e ∷ h) .shows)
+      ∙ rw (accepted-is e h go, alert.due-same e (taken h) alerts, alert.silence-is e (taken h) alerts)
+      (by-cases (intDue (taken h)) (λ y. rw (y, or-true (silenced (taken h)))) (λ n. rw n))
+
+  -- ---- stretches
+
+  calm : (f : FanId) → disturbs f e h ≡ false
+  unfolding disturbs
+  calm f =
+      rw (alert.kind-is e (taken h) alerts kind.Write, alert.kind-is e (taken h) alerts kind.Power, alert.fine e (taken h) alerts f, and-false (accepted e h))
+
+  aim-same : (f : FanId) → target f (taken (e ∷ h)) ≡ target f (taken h)
+  aim-same f =
+      by-cases (accepted e h)
+      (λ go. rw (accepted-is e h go) (target-same e (taken h) (u e (taken h) alerts) f))
+      (λ bad. rw (refused-is e h bad))
+
+  free-same : overridden (taken (e ∷ h)) ≡ overridden (taken h)
+  free-same =
+      by-cases (accepted e h)
+      (λ go. rw (accepted-is e h go) (override-same e (taken h) (u e (taken h) alerts)))
+      (λ bad. rw (refused-is e h bad))
+
+  on-same : (f : FanId) → enabled f (taken (e ∷ h)) ≡ enabled f (taken h)
+  on-same f =
+      by-cases (accepted e h)
+      (λ go. rw (accepted-is e h go, u e (taken h) alerts .byte config2 refl))
+      (λ bad. rw (refused-is e h bad))
+
+  settled-same : (f : FanId) (d : ℕ) → Settled f d h → Settled f d (e ∷ h)
+  settled-same f d s = record { on = on-same f ∙ s .on; free = free-same ∙ s .free; aim = aim-same f ∙ s .aim }
+
+  within-same : (f : FanId) (a b : ℕ) → Within f a b h → Within f a b (e ∷ h)
+  within-same f a b w = record { on = on-same f ∙ w .on; free = free-same ∙ w .free; aim = subst (Inside a b) (sym (aim-same f)) (w .aim) }
+
+-- a stretch is settled at its end
+settled-at : (f : FanId) (d : ℕ) (s : List Event) (h : History) → Stretch f d s h → Settled f d (s ++ h)
+unfolding Stretch
+settled-at f d [] h s = s
+settled-at f d (e ∷ t) h s = s .2
+
+within-at : (f : FanId) (a b : ℕ) (s : List Event) (h : History) → MovingStretch f a b s h → Within f a b (s ++ h)
+unfolding MovingStretch
+within-at f a b [] h s = s
+within-at f a b (e ∷ t) h s = s .2
+
+pub alerts : (h : History) → Alerts h
+unfolding Stretch MovingStretch
+alerts h =
+    record {
+      letGo = λ e y go. let-go e h y go;
+      unchanged = λ e y z. unchanged e h y z;
+      chip = λ e y. chip-run (e ∷ h) ∙ (chip-kept e h y ∙ sym (chip-run h));
+      calm = λ f e y. calm e h y f;
+      stretch = λ f d s e y st. (st, calm e (s ++ h) y f, settled-same e (s ++ h) y f d (settled-at f d s h st));
+      moving = λ f a b s e y st. (st, calm e (s ++ h) y f, within-same e (s ++ h) y f a b (within-at f a b s h st));
+    }
