@@ -6,23 +6,19 @@ use mathlib.Core.List.{List, [], _∷_, _++_}
 use native.Mathlib.Omega.{arith}
 use Rattle.integer.specs.Bits.{flagOf}
 use Rattle.integer.proofs.BoolLaws.{by-cases}
-use Rattle.part.specs.declared.ChannelId.{ChannelId}
-use Rattle.part.specs.declared.ChannelId.the-variants.{Local, Remote1, Remote2}
 use Rattle.part.specs.declared.FanId.{FanId}
-use Rattle.part.specs.declared.FanId.the-variants.{One, Two}
 use Rattle.event.specs.Kinds.{isKind}
 use Rattle.event.specs.declared.Event.{Event}
 use Rattle.event.specs.declared.Shown.{Shown}
 use Rattle.event.specs.declared.Kind.the-variants as kind
 use Rattle.rules.specs.Registers.{config2}
-use Rattle.rules.specs.Stored.{Taken, powered, ownAddress, pointer}
+use Rattle.rules.specs.Stored.{Taken, powered}
 use Rattle.rules.specs.Replies.{History, taken, accepted}
 use Rattle.rules.specs.Targets.{target, overridden}
-use Rattle.rules.specs.Duties.{enabled, atAlarm}
+use Rattle.rules.specs.Duties.{enabled}
 use Rattle.rules.specs.Shows.{intDue, silenced, intAsserted, shown}
 use Rattle.rules.proofs.TakenLaws.{refused-is, accepted-is}
 use Rattle.rules.proofs.CalmLaws.{Untouched, target-same, override-same}
-use Rattle.rules.proofs.KeptLaws.{BitsKept}
 use Rattle.rules.proofs.AlertLaws as alert
 use Rattle.drive.specs.Ramp.{Inside}
 use Rattle.keeper.specs.Keeping.{shownBy}
@@ -30,52 +26,19 @@ use Rattle.history.specs.Agreement.{run}
 use Rattle.history.specs.Demand3.{disturbs, Settled, Stretch}
 use Rattle.history.specs.MovingTarget.{Within, MovingStretch}
 use Rattle.history.specs.Alerts.{Alerts}
-use Rattle.history.proofs.State.{portBy, channelRegistersBy, fanRegistersBy, registersBy, channelBy, channelsBy, fanBy, chipBy, deviceBy, stateBy}
+use Rattle.history.proofs.State.{chipBy, deviceBy, stateBy}
+use Rattle.history.proofs.AlertChipLaws.{chip-same}
 use Rattle.history.proofs.Agree.{agree, agreement, chip-run}
-
--- ---- the chip that the rules describe
-
-module _ (e : Event) (d : Taken) (alerts : isKind kind.Alert e ≡ true) where
-  abbrev u : Untouched e d
-  u = alert.settled e d alerts
-
-  abbrev k : BitsKept e d
-  k = alert.bits e d alerts
-
-  port-same : portBy (e ∷ d) ≡ portBy d
-  unfolding portBy ownAddress pointer
-  port-same =
-      rw (alert.kind-is e d alerts kind.Power, alert.kind-is e d alerts kind.Write, alert.kind-is e d alerts kind.Point, u .pin, k .pulled)
-
-  registers-same : registersBy (e ∷ d) ≡ registersBy d
-  unfolding registersBy channelRegistersBy fanRegistersBy
-  registers-same = simp (alert.byte-kept e d alerts)
-
-  channel-same : (c : ChannelId) → channelBy c (e ∷ d) ≡ channelBy c d
-  unfolding channelBy
-  channel-same c = rw (u .reading c, u .latch c, u .flag c, k .high c, k .low c, k .therm c, k .error c)
-
-  alarm-same : (f : FanId) → atAlarm f (e ∷ d) ≡ atAlarm f d
-  unfolding atAlarm
-  alarm-same f = rw (u .byte config2 refl, override-same e d u)
-
-  fan-same : (f : FanId) → fanBy f (e ∷ d) ≡ fanBy f d
-  unfolding fanBy
-  fan-same f = rw (alert.duty-same e d alerts f, alert.left-same e d alerts f, alert.run-same e d alerts f, alarm-same f, k .alarm f, k .fault f)
-
-  chip-same : chipBy (e ∷ d) ≡ chipBy d
-  unfolding chipBy channelsBy
-  chip-same =
-      rw (port-same, registers-same, channel-same Local, channel-same Remote1, channel-same Remote2, fan-same One, fan-same Two)
 
 -- ---- the keeper
 
 module _ (e : Event) (h : History) (alerts : isKind kind.Alert e ≡ true) where
+  -- what an alert leaves where it is accepted, it leaves
+  through : {A : Type 0} (x : Taken → A) → x (e ∷ taken h) ≡ x (taken h) → x (taken (e ∷ h)) ≡ x (taken h)
+  through x q = by-cases (accepted e h) (λ go. ap x (accepted-is e h go) ∙ q) (λ bad. ap x (refused-is e h bad))
+
   chip-kept : chipBy (taken (e ∷ h)) ≡ chipBy (taken h)
-  chip-kept =
-      by-cases (accepted e h)
-      (λ go. ap chipBy (accepted-is e h go) ∙ chip-same e (taken h) alerts)
-      (λ bad. ap chipBy (refused-is e h bad))
+  chip-kept = through chipBy (chip-same e (taken h) alerts)
 
   -- INT not asserted: let go already, or not due, so that it is let go after the alert just if it was before
   not-begun : shown (taken h) .int ≡ 0 → (silenced (taken h) || intDue (taken h)) ≡ silenced (taken h)
@@ -89,17 +52,11 @@ module _ (e : Event) (h : History) (alerts : isKind kind.Alert e ≡ true) where
 
   device-kept : shown (taken h) .int ≡ 0 → deviceBy (taken (e ∷ h)) ≡ deviceBy (taken h)
   unfolding deviceBy
-  device-kept z =
-      by-cases (accepted e h)
-      (λ go. rw (accepted-is e h go, chip-same e (taken h) alerts, alert.silence-is e (taken h) alerts, not-begun z))
-      (λ bad. rw (refused-is e h bad))
+  device-kept z = through deviceBy (rw (chip-same e (taken h) alerts, alert.silence-is e (taken h) alerts, not-begun z))
 
   power-kept : powered (taken (e ∷ h)) ≡ powered (taken h)
   unfolding powered
-  power-kept =
-      by-cases (accepted e h)
-      (λ go. rw (accepted-is e h go, alert.kind-is e (taken h) alerts kind.Power))
-      (λ bad. rw (refused-is e h bad))
+  power-kept = through powered (rw (alert.kind-is e (taken h) alerts kind.Power))
 
   unchanged : shownBy (run h) .int ≡ 0 → run (e ∷ h) ≡ run h
   unfolding stateBy
@@ -117,28 +74,22 @@ module _ (e : Event) (h : History) (alerts : isKind kind.Alert e ≡ true) where
 
   -- ---- stretches
 
+  abbrev u : Untouched e (taken h)
+  u = alert.settled e (taken h) alerts
+
   calm : (f : FanId) → disturbs f e h ≡ false
   unfolding disturbs
   calm f =
       rw (alert.kind-is e (taken h) alerts kind.Write, alert.kind-is e (taken h) alerts kind.Power, alert.fine e (taken h) alerts f, and-false (accepted e h))
 
   aim-same : (f : FanId) → target f (taken (e ∷ h)) ≡ target f (taken h)
-  aim-same f =
-      by-cases (accepted e h)
-      (λ go. rw (accepted-is e h go) (target-same e (taken h) (u e (taken h) alerts) f))
-      (λ bad. rw (refused-is e h bad))
+  aim-same f = through (target f) (target-same e (taken h) u f)
 
   free-same : overridden (taken (e ∷ h)) ≡ overridden (taken h)
-  free-same =
-      by-cases (accepted e h)
-      (λ go. rw (accepted-is e h go) (override-same e (taken h) (u e (taken h) alerts)))
-      (λ bad. rw (refused-is e h bad))
+  free-same = through overridden (override-same e (taken h) u)
 
   on-same : (f : FanId) → enabled f (taken (e ∷ h)) ≡ enabled f (taken h)
-  on-same f =
-      by-cases (accepted e h)
-      (λ go. rw (accepted-is e h go, u e (taken h) alerts .byte config2 refl))
-      (λ bad. rw (refused-is e h bad))
+  on-same f = through (enabled f) (rw (u .byte config2 refl))
 
   settled-same : (f : FanId) (d : ℕ) → Settled f d h → Settled f d (e ∷ h)
   settled-same f d s = record { on = on-same f ∙ s .on; free = free-same ∙ s .free; aim = aim-same f ∙ s .aim }

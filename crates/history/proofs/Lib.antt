@@ -10,6 +10,7 @@ pub mod StretchLaws
 pub mod MovingTargetLaws
 pub mod StillTargetLaws
 pub mod Demand3Laws
+pub mod AlertChipLaws
 pub mod AlertsLaws
 pub mod BoundsLaws
 pub mod ReadbackLaws

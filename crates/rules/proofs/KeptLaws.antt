@@ -4,7 +4,6 @@ use mathlib.Core.Path.{_≡_, refl, sym, _∙_}
 use mathlib.Core.Bool.{Bool, true, false, cond, not, _&&_, _||_, and-true, and-not-self, or-true, or-false}
 use mathlib.Core.List.{_∷_}
 use lib.Dec.{eqb}
-use Rattle.integer.specs.Bits.{bitOf}
 use Rattle.integer.proofs.BoolLaws.{by-cases, neither}
 use Rattle.part.specs.declared.ChannelId.{ChannelId}
 use Rattle.part.specs.declared.ChannelId.the-variants.{Local, Remote1, Remote2}
@@ -19,8 +18,9 @@ use Rattle.rules.specs.Stored.{Taken, counts, storedAt, diodeError, pull
 use Rattle.rules.specs.Temperatures.{temperature, wholeByte, channelOn, highBit, lowBit, thermBit}
 use Rattle.rules.specs.Targets.{flag}
 use Rattle.rules.specs.Duties.{duty, failed, failures, faultBit, atAlarm, alarmBit}
-use Rattle.rules.specs.Shows.{remaindersByte, status, byteAt, value, pending, intDue, someRisen, raises, silenced, intAsserted, faultAsserted, shown}
+use Rattle.rules.specs.Shows.{remaindersByte, status, byteAt, value, pending, intDue, raises, silenced, intAsserted, faultAsserted, shown}
 use Rattle.rules.proofs.CalmLaws.{byte-same, Untouched, untouched, override-same, therm-same}
+use Rattle.rules.proofs.RiseLaws.{none-risen}
 use Rattle.rules.proofs.StayLaws.{on-kept, high-kept, low-kept, therm-kept, pulled-kept}
 
 -- what is alike where a test holds, and where it does not
@@ -86,25 +86,6 @@ alarm-kept e d u no-read f = alarm-step f e d (u .calm) no-read ∙ rw (at-same,
     at-same : atAlarm f (e ∷ d) ≡ atAlarm f d
     at-same = rw (u .byte config2 refl, override-same e d u)
 
--- a byte that stays has no bit that rises
-no-rise : (b : Bool) → (not b && b) ≡ false
-no-rise true = refl
-no-rise false = refl
-
-none-risen : (n : ℕ) → someRisen n n ≡ false
-unfolding someRisen
-none-risen n =
-    rw (
-      no-rise (bitOf n 0),
-      no-rise (bitOf n 1),
-      no-rise (bitOf n 2),
-      no-rise (bitOf n 3),
-      no-rise (bitOf n 4),
-      no-rise (bitOf n 5),
-      no-rise (bitOf n 6),
-      no-rise (bitOf n 7),
-    )
-
 -- an event that leaves every status bit, and the enable bits of the channels
 pub record BitsKept (e : Event) (d : Taken) : Type 0 where
   pub on : (c : ChannelId) → channelOn c (e ∷ d) ≡ channelOn c d
@@ -149,7 +130,7 @@ module _ (e : Event) (d : Taken) (k : BitsKept e d) where
       rw (k .alarm Two, k .fault Two, k .high Remote2, k .low Remote2, k .therm Remote2, k .error Remote2, k .on Remote2, k .therm Local, k .pulled)
 
   pub raises-none : raises e d ≡ false
-  raises-none = rw (status-kept One, status-kept Two, none-risen (status One d), none-risen (status Two d))
+  raises-none = rw (status-kept One, status-kept Two, none-risen (status One d) _ (λ k l z. z), none-risen (status Two d) _ (λ k l z. z))
 
   module _ (u : Untouched e d) where
     pub due-kept : intDue (e ∷ d) ≡ intDue d

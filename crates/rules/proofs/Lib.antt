@@ -21,6 +21,7 @@ pub mod FanWordsLaws
 pub mod SoundLaws
 pub mod TurnLaws
 pub mod TachLaws
+pub mod RiseLaws
 pub mod KeptLaws
 pub mod UnjudgedLaws
 pub mod OrdinaryLaws
@@ -31,6 +32,7 @@ pub mod OffsetWriteLaws
 pub mod PageOffsetsLaws
 pub mod AlertLaws
 pub mod IntLaws
+pub mod SilenceLaws
 pub mod PageAlertsLaws
 pub mod AlertRowLaws
 pub mod PageAlertRowLaws

@@ -1,7 +1,7 @@
 -- The page of INT and of alerts holds after every list. Assumes nothing.
 use mathlib.Core.Path.{_≡_, refl, sym, ap, _∙_, subst}
 use mathlib.Core.Bool.{true, false, or-true}
-use mathlib.Core.List.{List, [], _∷_, _++_, append-nil}
+use mathlib.Core.List.{[], _∷_, _++_, append-nil}
 use native.Mathlib.Omega.{arith}
 use lib.IntN.{ℤ}
 use Rattle.integer.specs.Bits.{flagOf}
@@ -18,7 +18,8 @@ use Rattle.rules.proofs.TakenLaws.{accepted-is}
 use Rattle.rules.proofs.CalmLaws.{therm-same}
 use Rattle.rules.proofs.FanWordsLaws.{duty-is}
 use Rattle.rules.proofs.AlertLaws as alert
-use Rattle.rules.proofs.IntLaws.{due-is, int-is, raised-free, restart-free, stays-silent, stays-free}
+use Rattle.rules.proofs.IntLaws.{due-is, int-is}
+use Rattle.rules.proofs.SilenceLaws.{raised-free, restart-free, stays-silent, stays-free}
 
 -- let go, INT is not asserted; else it is what rule 8 says
 silent-out : (h : History) → silenced (taken h) ≡ true → out h .int ≡ 0

@@ -12,7 +12,7 @@ use Rattle.part.specs.declared.FanId.{FanId}
 use Rattle.event.specs.Kinds.{isKind}
 use Rattle.event.specs.declared.Event.{Event}
 use Rattle.event.specs.declared.Kind.the-variants as kind
-use Rattle.rules.specs.Replies.{History, accepted}
+use Rattle.rules.specs.Replies.{History}
 use Rattle.rules.specs.PageWords.{power, alert, Accepted, register, bit, out, dutyOut, byFan}
 use Rattle.rules.specs.PageTemperatures.{latched, pulled, reset}
 use Rattle.rules.specs.PageDuties.{running, eighthsRead, clocksLeft, failureRun}

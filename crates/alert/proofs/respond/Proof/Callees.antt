@@ -112,10 +112,7 @@ module _ {M : Type 1} (𝓤 : URA M) (H : Heap 𝓤) (A : Atoms 𝓤) where
             nothing ! $ join ! $ nothing ! $ move ! (1 ∷ 0 ∷ []) $ done !
 
         pub goes-release : ent 𝓤 (emp 𝓤) (Tells releasing 𝓤 H A .pre (to-release t e))
-        goes-release =
-            qed W [] ∵ nothing ! $ owned ! Re (Is Re) (LL.makes D.the-type D′.the-plain 𝓤 H A) e _ e-is $ fjoin ! $
-            owned ! Rt (Is Rt) (LL.makes T.the-type T′.the-plain 𝓤 H A) t _ is $ fjoin ! $
-            nothing ! $ join ! $ nothing ! $ move ! (1 ∷ 0 ∷ []) $ done !
+        goes-release = goes-count
 
     -- a machine value that stands for one of them is of its MIR type
     pub entry-typed : (e : AlertEntry) (v : Val) → Is Re e (v ∷ []) → Holds (hasTy entry v) × WT v
