@@ -1,10 +1,8 @@
 -- An alert lets INT go and changes nothing else of the keeper; no stretch ends at one. Assumes nothing.
 use Prim.Native.Nat.{ℕ}
 use mathlib.Core.Path.{_≡_, refl, sym, ap, _∙_, subst}
-use mathlib.Core.Bool.{true, false, not, _&&_, _||_, or-true, or-false, and-false}
+use mathlib.Core.Bool.{true, false, _||_, and-false}
 use mathlib.Core.List.{List, [], _∷_, _++_}
-use native.Mathlib.Omega.{arith}
-use Rattle.integer.specs.Bits.{flagOf}
 use Rattle.integer.proofs.BoolLaws.{by-cases}
 use Rattle.part.specs.declared.FanId.{FanId}
 use Rattle.event.specs.Kinds.{isKind}
@@ -16,10 +14,11 @@ use Rattle.rules.specs.Stored.{Taken, powered}
 use Rattle.rules.specs.Replies.{History, taken, accepted}
 use Rattle.rules.specs.Targets.{target, overridden}
 use Rattle.rules.specs.Duties.{enabled}
-use Rattle.rules.specs.Shows.{intDue, silenced, intAsserted, shown}
+use Rattle.rules.specs.Shows.{intDue, silenced, shown}
 use Rattle.rules.proofs.TakenLaws.{refused-is, accepted-is}
 use Rattle.rules.proofs.CalmLaws.{Untouched, target-same, override-same}
 use Rattle.rules.proofs.AlertLaws as alert
+use Rattle.rules.proofs.SilenceLaws.{not-due, alert-out}
 use Rattle.drive.specs.Ramp.{Inside}
 use Rattle.keeper.specs.Keeping.{shownBy}
 use Rattle.history.specs.Agreement.{run}
@@ -42,13 +41,7 @@ module _ (e : Event) (h : History) (alerts : isKind kind.Alert e ≡ true) where
 
   -- INT not asserted: let go already, or not due, so that it is let go after the alert just if it was before
   not-begun : shown (taken h) .int ≡ 0 → (silenced (taken h) || intDue (taken h)) ≡ silenced (taken h)
-  unfolding shown intAsserted
-  not-begun z =
-      by-cases (silenced (taken h))
-      (λ s. rw s)
-      (λ s. by-cases (intDue (taken h))
-      (λ y. let one : flagOf (intDue (taken h) && not (silenced (taken h))) ≡ 1 = rw (s, y) in absurd (omega (arith, one, z)))
-      (λ n. rw n (or-false (silenced (taken h)))))
+  not-begun z = by-cases (silenced (taken h)) (λ s. rw s) (λ s. rw (s, not-due e h s z))
 
   device-kept : shown (taken h) .int ≡ 0 → deviceBy (taken (e ∷ h)) ≡ deviceBy (taken h)
   unfolding deviceBy
@@ -66,11 +59,7 @@ module _ (e : Event) (h : History) (alerts : isKind kind.Alert e ≡ true) where
 
   -- INT after it
   let-go : accepted e h ≡ true → shownBy (run (e ∷ h)) .int ≡ 0
-  unfolding shown intAsserted
-  let-go go =
-      ap (λ (s : Shown). s .int) (agreement (e ∷ h) .shows)
-      ∙ rw (accepted-is e h go, alert.due-same e (taken h) alerts, alert.silence-is e (taken h) alerts)
-      (by-cases (intDue (taken h)) (λ y. rw (y, or-true (silenced (taken h)))) (λ n. rw n))
+  let-go go = ap (λ (s : Shown). s .int) (agreement (e ∷ h) .shows) ∙ alert-out e h alerts go
 
   -- ---- stretches
 

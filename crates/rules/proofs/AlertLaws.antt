@@ -4,10 +4,9 @@ use mathlib.Core.Path.{_≡_, refl}
 use mathlib.Core.Bool.{true, false, _||_}
 use mathlib.Core.List.{_∷_}
 use lib.Dec.{eqb}
-use borrow.Author.Tests.{eqb-true}
 use Rattle.integer.proofs.BoolLaws.{by-cases}
 use Rattle.part.specs.declared.FanId.{FanId}
-use Rattle.event.specs.Kinds.{isKind, placeOf, kindOf}
+use Rattle.event.specs.Kinds.{isKind, placeOf}
 use Rattle.event.specs.declared.Event.{Event}
 use Rattle.event.specs.declared.Kind.{Kind}
 use Rattle.event.specs.declared.Kind.the-variants as kind
@@ -15,6 +14,7 @@ use Rattle.rules.specs.Events.{periods}
 use Rattle.rules.specs.Stored.{Taken, storedAt}
 use Rattle.rules.specs.Duties.{left, failedIn, spin, failed, failures}
 use Rattle.rules.specs.Shows.{value, intDue, silenced}
+use Rattle.rules.proofs.EventLaws.{of-kind}
 use Rattle.rules.proofs.CalmLaws.{byte-same, Untouched, untouched}
 use Rattle.rules.proofs.QuietLaws.{uncounted}
 use Rattle.rules.proofs.TurnLaws as turn
@@ -24,7 +24,7 @@ use Rattle.rules.proofs.PageTachLaws.{run-kept}
 module _ (e : Event) (d : Taken) (alerts : isKind kind.Alert e ≡ true) where
   -- it is of no other kind
   pub kind-is : (k : Kind) → isKind k e ≡ eqb 9 (placeOf k)
-  kind-is k = rw (eqb-true (placeOf (kindOf e)) 9 alerts)
+  kind-is = of-kind e 9 alerts
 
   pub settled : Untouched e d
   settled = untouched e d (kind-is kind.Power) (kind-is kind.Write) (kind-is kind.Sample) (kind-is kind.Pin)

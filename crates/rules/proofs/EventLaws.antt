@@ -1,4 +1,4 @@
--- An event whose numbers are in their ranges: each lies in that of its kind. Assumes nothing.
+-- An event by its kind: it is of no other, and a number in its range lies in that of its kind. Assumes nothing.
 use Prim.Native.Nat.{ℕ, _≤_}
 use mathlib.Core.Path.{_≡_, sym, ap, _∙_}
 use mathlib.Core.Bool.{Bool, true, false, _&&_, true≢false}
@@ -7,10 +7,15 @@ use lib.IntN.{ℤ, pos, negsuc}
 use lib.ListN.{getD}
 use borrow.Author.Tests.{eqb-true, leb-true, not-false}
 use Rattle.integer.proofs.BoolLaws.{both}
-use Rattle.event.specs.Kinds.{placeOf, kindOf}
+use Rattle.event.specs.Kinds.{isKind, placeOf, kindOf}
 use Rattle.event.specs.declared.Event.{Event}
+use Rattle.event.specs.declared.Kind.{Kind}
 use Rattle.rules.specs.Events.{who, arg, val, natural, fromTo, Ranges, ranges, unused, lies, carried, rangesOf}
 use Rattle.rules.specs.Replies.{fitsIn, outOfRange}
+
+-- an event of the kind at a place of the table is of no other
+pub of-kind : (e : Event) (n : ℕ) → eqb (placeOf (kindOf e)) n ≡ true → (k : Kind) → isKind k e ≡ eqb n (placeOf k)
+of-kind e n y k = rw (eqb-true (placeOf (kindOf e)) n y)
 
 -- the ranges of the kind at a place of the table
 abbrev pub rangesAt : ℕ → Ranges

@@ -19,7 +19,7 @@ use Rattle.rules.proofs.CalmLaws.{therm-same}
 use Rattle.rules.proofs.FanWordsLaws.{duty-is}
 use Rattle.rules.proofs.AlertLaws as alert
 use Rattle.rules.proofs.IntLaws.{due-is, int-is}
-use Rattle.rules.proofs.SilenceLaws.{raised-free, restart-free, stays-silent, stays-free}
+use Rattle.rules.proofs.SilenceLaws.{alert-out, raised-free, restart-free, stays-silent, stays-free}
 
 -- let go, INT is not asserted; else it is what rule 8 says
 silent-out : (h : History) → silenced (taken h) ≡ true → out h .int ≡ 0
@@ -43,13 +43,6 @@ module _ (h : History) (w : ℤ) (go : Accepted (alerted w) h) where
   took : taken (alerted w ∷ h) ≡ alerted w ∷ d
   took = accepted-is (alerted w) h go
 
-  -- an alert: INT was let go already, or was due and is let go, or is not due
-  let-go : out (alerted w ∷ h) .int ≡ 0
-  let-go =
-      int-is (alerted w ∷ h)
-      ∙ rw (due-is (alerted w ∷ h), took, alert.due-same (alerted w) d refl, alert.silence-is (alerted w) d refl)
-      (by-cases (intDue d) (λ y. rw (y, or-true (silenced d))) (λ n. rw n))
-
   -- asserted, it was due and not let go
   goes-silent : out h .int ≡ 1 → silenced (taken (alerted w ∷ h)) ≡ true
   goes-silent one =
@@ -64,7 +57,7 @@ page-alerts h =
     let d = taken h in
     record {
       int = λ q. subst (λ (g : History). out g .int ≡ flagOf (due g)) (append-nil h) (follows [] (unfold taken in at-first) h q);
-      letGo = let-go h;
+      letGo = λ w go. alert-out (alerted w) h refl go;
       silent = λ w t go one q. silent-out (t ++ (alerted w ∷ h)) (stays-silent t (alerted w ∷ h) (goes-silent h w go one) q);
       raised = λ e f k go l p q. follows (e ∷ h) (raised-free e h go f k l p q);
       powered = λ w a v go. follows (power w a v ∷ h) (restart-free (power w a v) h go refl);

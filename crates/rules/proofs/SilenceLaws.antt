@@ -1,7 +1,7 @@
 -- INT let go, and not: what begins it, what it lasts over and what ends it, event by event and over lists. Assumes nothing.
 use Prim.Native.Nat.{ℕ, _<_}
 use mathlib.Core.Path.{_≡_, sym, _∙_}
-use mathlib.Core.Bool.{true, false, true≢false}
+use mathlib.Core.Bool.{true, false, or-true, true≢false}
 use mathlib.Core.List.{List, [], _∷_, _++_}
 use native.Mathlib.Omega.{arith}
 use Rattle.integer.proofs.BoolLaws.{by-cases}
@@ -16,7 +16,7 @@ use Rattle.rules.specs.PageWords.{Accepted, out}
 use Rattle.rules.specs.PageAlerts.{statusBit, Quiet, AllQuiet, Unanswered}
 use Rattle.rules.proofs.TakenLaws.{refused-is, accepted-is}
 use Rattle.rules.proofs.KeptLaws.{raises-none}
-use Rattle.rules.proofs.AlertLaws.{bits}
+use Rattle.rules.proofs.AlertLaws.{bits, due-same, silence-is}
 use Rattle.rules.proofs.IntLaws.{due-is, int-is, quiet-calm, quiet-still, raised}
 
 -- ---- one event
@@ -30,7 +30,7 @@ module _ (e : Event) (g : History) where
       (λ go. rw (accepted-is e g go, quiet-calm e g (q go), s, quiet-still e g go (q go)))
       (λ bad. rw (refused-is e g bad) s)
 
-  not-due : silenced (taken g) ≡ false → out g .int ≡ 0 → intDue (taken g) ≡ false
+  pub not-due : silenced (taken g) ≡ false → out g .int ≡ 0 → intDue (taken g) ≡ false
   not-due s z =
       by-cases (intDue (taken g))
       (λ y. let one : out g .int ≡ 1 = int-is g ∙ rw (due-is g, y, s) in absurd (omega (arith, one, z)))
@@ -64,6 +64,13 @@ module _ (e : Event) (g : History) where
   pub restart-free : Accepted e g → restarts e ≡ true → silenced (taken (e ∷ g)) ≡ false
   unfolding silenced
   restart-free go r = rw (accepted-is e g go, r)
+
+  -- after an alert INT is not asserted: it was let go before, is let go now, or is not due
+  pub alert-out : isKind kind.Alert e ≡ true → Accepted e g → out (e ∷ g) .int ≡ 0
+  alert-out y go =
+      int-is (e ∷ g)
+      ∙ rw (due-is (e ∷ g), accepted-is e g go, due-same e (taken g) y, silence-is e (taken g) y)
+      (by-cases (intDue (taken g)) (λ d. rw (d, or-true (silenced (taken g)))) (λ n. rw n))
 
 -- ---- and over lists
 

@@ -5,10 +5,9 @@ use mathlib.Core.Bool.{Bool, true, false, cond, _&&_}
 use mathlib.Core.List.{[], _∷_}
 use native.Mathlib.Omega.{arith}
 use lib.Dec.{ltb, eqb}
-use borrow.Author.Tests.{eqb-true}
 use Rattle.integer.proofs.BoolLaws.{by-cases, both}
 use Rattle.part.specs.declared.FanId.{FanId}
-use Rattle.event.specs.Kinds.{isKind, placeOf, kindOf}
+use Rattle.event.specs.Kinds.{isKind, placeOf}
 use Rattle.event.specs.declared.Event.{Event}
 use Rattle.event.specs.declared.Kind.{Kind}
 use Rattle.event.specs.declared.Kind.the-variants as kind
@@ -17,6 +16,7 @@ use Rattle.rules.specs.Events.{byteGiven, measures}
 use Rattle.rules.specs.Stored.{Taken, storedAt}
 use Rattle.rules.specs.Targets.{overridden}
 use Rattle.rules.specs.Duties.{enabled, tachOn, spinUpClocks, left, judgedIn, failedIn, spin, judged, failed, failures, faultBit}
+use Rattle.rules.proofs.EventLaws.{of-kind}
 use Rattle.rules.proofs.CalmLaws.{no-restart, same-prior, byte-same, limit-same, spin-up-same, Untouched, untouched}
 use Rattle.rules.proofs.SoundLaws.{two-clocks, wanted, aimed, sound, is-wanted}
 use Rattle.rules.proofs.TurnLaws as turn
@@ -35,7 +35,7 @@ untracked f (e ∷ d) off = rw off
 module _ (e : Event) (d : Taken) (tach : isKind kind.Tach e ≡ true) where
   -- it is of no other kind
   pub kind-is : (k : Kind) → isKind k e ≡ eqb 5 (placeOf k)
-  kind-is k = rw (eqb-true (placeOf (kindOf e)) 5 tach)
+  kind-is = of-kind e 5 tach
 
   bits-same : storedAt config2 (e ∷ d) ≡ storedAt config2 d
   bits-same = byte-same e d (kind-is kind.Power) (kind-is kind.Write) config2 refl
