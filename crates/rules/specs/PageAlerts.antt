@@ -51,7 +51,7 @@ abbrev pub FollowsStatus : History → Type 0
 FollowsStatus h = (t : List Event) → Unanswered t h → out (t ++ h) .int ≡ flagOf (due (t ++ h))
 
 pub record PageAlerts (h : History) : Type 0 where
-  -- 8, until the first alert: without alerts INT is what document 01 says
+  -- 8, until an alert finds INT asserted: without alerts INT is what document 01 says
   pub int : Unanswered h [] → out h .int ≡ flagOf (due h)
   -- "its INT is let go": at the event itself
   pub letGo : (w : ℤ) → Accepted (alerted w) h → out (alerted w ∷ h) .int ≡ 0
