@@ -7,7 +7,7 @@ use native.Mathlib.Omega.{arith}
 use native.Mathlib.Nat.{zero-add}
 use lib.Dec.{ltb}
 use lib.ListN.{length}
-use lib.Seq.{sets, length-sets, length-take-le}
+use lib.Seq.{sets}
 use Rattle.io.specs.Counts.{Counts}
 use borrow.Author.Tests.{ltb-false}
 use Rattle.event.specs.declared.Refusal.{Refusal}
@@ -15,6 +15,7 @@ use Rattle.event.specs.declared.Refusal.the-variants.{WrongSize}
 use Rattle.buffer.specs.Put.{putOf, heldOf, putNumber, endOf}
 use Rattle.buffer.specs.declared.Put.{Put}
 use Rattle.buffer.specs.declared.Put.the-variants.{End, Refused}
+use Rattle.buffer.proofs.CountLaws.{put-counted}
 use Rattle.buffer.proofs.WholeLaws.{end-there, held-there, never-refused}
 use Rattle.report.specs.Report.{answerText}
 use Rattle.player.proofs.SizeLaws.{bounded}
@@ -28,13 +29,6 @@ refusal = answerText (putNumber (Refused WrongSize))
 refusal-length : length refusal ≡ 10
 unfolding answerText
 refusal-length = refl
-
--- a text that has room from the start of the buffer on is counted
-counted : (t d : List ℕ) {d′ : List ℕ} {e : ℕ} → 0 + length t ≤ length d → d′ ≡ sets d 0 t → e ≡ length t → Counts e d′
-counted t d {d′} {e} fits h q =
-    let l = ap length h ∙ length-sets d 0 t in
-    let w : e ≤ length d′ = omega arith in
-    (w, sym (length-take-le e d′ w))
 
 module _ (text d : List ℕ) (room : 196634 ≤ length d) where
   -- ---- a text that is short enough
@@ -94,7 +88,7 @@ module _ (text d : List ℕ) (room : 196634 ≤ length d) where
       held-is = h ∙ held-short short
 
       pub counts-is : Counts e d′
-      counts-is = counted (printedOf text) d (rw (printed-short short) (fits short)) held-is end-is
+      counts-is = put-counted (printedOf text) d (rw (printed-short short) (fits short)) held-is end-is
 
   -- ---- it was refused, and its number put
 
@@ -125,4 +119,4 @@ module _ (text d : List ℕ) (room : 196634 ≤ length d) where
           refused-held = held-there d (answerText n) 0 room-long (rw same-still at s) ∙ ap (sets d 0) text-is
 
           pub refused-counts : Counts e d″
-          refused-counts = counted (printedOf text) d (rw text-is at room-long) refused-held refused-is
+          refused-counts = put-counted (printedOf text) d (rw text-is at room-long) refused-held refused-is

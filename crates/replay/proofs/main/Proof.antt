@@ -2,7 +2,7 @@ use Prim.Native.Nat.{_≤_, _+_, _-_, min}
 use mathlib.Core.Path.{_≡_}
 use borrow.Author.Needs.{needs}
 use lib.ListN.{length}
-use Rattle.replay.proofs.InputLaws.{still, still-within, counted}
+use Rattle.buffer.proofs.CountLaws.{still, still-within, counted}
 use Rattle.replay.proofs.main.Statement.{statement}
 use Rattle.replay.proofs.main.Tie as tie
 
