@@ -4,7 +4,7 @@ use mathlib.Core.Path.{_≡_, refl, sym, ap, _∙_}
 use mathlib.Core.List.{List, [], _∷_, _++_}
 use mathlib.Core.Bool.{true, false, cond, and-false}
 use native.Mathlib.Omega.{arith}
-use native.Mathlib.Nat.{zero-add, sub-zero}
+use native.Mathlib.Nat.{zero-add, sub-zero, mul-zero, mul-suc, mul-le-mul-left, mul-div-le, lt-mul-div-succ}
 use native.Mathlib.Numerals.{add-one}
 use lib.IntN.{ℤ, pos}
 use lib.ListN.{length, getD, length-append}
@@ -26,8 +26,7 @@ use Rattle.event.specs.declared.Shown.{Shown}
 use Rattle.event.specs.declared.Refusal.the-variants.{WrongSize}
 use Rattle.buffer.specs.declared.Put.the-variants.{End, Refused}
 use Rattle.buffer.proofs.TextLaws.{sets-append}
-use Rattle.rules.specs.Replies.{taken}
-use Rattle.rules.specs.Shows.{answer, shown}
+use Rattle.rules.specs.Replies.{History}
 use Rattle.keeper.specs.Keeping.{outcomeOf}
 use Rattle.keeper.specs.declared.Keeper.{Keeper}
 use Rattle.keeper.specs.declared.Keeper.the-variants.{Off}
@@ -37,7 +36,7 @@ use Rattle.history.proofs.Agree.{agreement}
 use Rattle.stepper.specs.declared.Parsed.{Parsed}
 use Rattle.stepper.specs.declared.Parsed.the-variants.{Event, Nothing}
 use Rattle.stepper.specs.Steps.{eventFrom, eventNumbered, isEvent, eventCountFrom, eventCount, firstEvents}
-use Rattle.stepper.specs.Steps.{outcomeBytes, outcomesOf, wellSized, stepsAnswer, stepsBuffer}
+use Rattle.stepper.specs.Steps.{bytesOf, wellSized, bytesAnswer, bytesBuffer, outcomeBytes, outcomeAfter}
 
 -- ---- an event from four numbers
 
@@ -72,11 +71,12 @@ pub put-is : (a : Answer) (s : Shown) (d : List ℕ) (at : ℕ) {d′ : List ℕ
     → d′ ≡ sets d at (n ∷ b ∷ s .int ∷ s .therm ∷ s .fault ∷ s .duty1 ∷ s .duty2 ∷ []) → d′ ≡ sets d at (outcomeBytes a s)
 put-is a s d at hn hd e = rw (hn, hd) at e
 
--- ---- event by event: k is the keeper after the first i events of s, and d is d0 with their outcomes
+-- ---- event by event: k is the keeper after the first i events of s, and d is d0 with what is put of each, so many bytes
 
-module _ {i end : ℕ} (below : i < end) where
-  pub room-fits : (d : List ℕ) → 7 * end ≤ length d → Fits w64 (length d) → Fits w64 (7 * i)
-  room-fits d h f = omega (arith, f)
+pub room-fits : {i end : ℕ} (width : ℕ) (d : List ℕ) → i < end → width * end ≤ length d → Fits w64 (length d) → Fits w64 (width * i)
+room-fits {i} {end} width d below h f =
+    let m : width * i ≤ width * end = mul-le-mul-left width (omega arith) in
+    omega (arith, f)
 
 module _ (s : List ℤ) (end i : ℕ) (count : eventCountFrom (end - i) i s ≡ eventCountFrom end 0 s) where
   one-more : {t : Parsed} → t ≡ eventNumbered s i → i < end → eventCountFrom (end - i) i s ≡ cond (isEvent t) (eventCountFrom (end - suc i) (suc i) s) i
@@ -97,39 +97,41 @@ module _ (s : List ℤ) (end i : ℕ) (count : eventCountFrom (end - i) i s ≡ 
   end-count h = let n : end - i ≡ 0 = omega arith in sym (ap (λ (left : ℕ). eventCountFrom left i s) n) ∙ count
 
 module _ (s : List ℤ) (i : ℕ) {t : Parsed} {x : event.Event} (is : t ≡ eventNumbered s i) (a : t ≡ Event x) where
-  pub next-long : length (outcomesOf i s) ≡ 7 * i → length (outcomesOf (i + 1) s) ≡ 7 * (i + 1)
-  unfolding outcomesOf
-  next-long long =
-      rw (add-one i, ← is, a) (length-append (outcomesOf i s) (outcomeBytes (answer x (firstEvents i s)) (shown (taken (x ∷ firstEvents i s)))) ∙ omega arith)
-
   module _ {k : Keeper} (before : k ≡ run (firstEvents i s)) {o : Outcome} (ho : o ≡ outcomeOf k x) where
     pub next-keeper : o .keeper ≡ run (firstEvents (i + 1) s)
     unfolding firstEvents run
     next-keeper = rw (ho, before, add-one i, ← is, a)
 
-    next-outcomes : outcomesOf (i + 1) s ≡ outcomesOf i s ++ outcomeBytes (o .answer) (o .shown)
-    unfolding outcomesOf
-    next-outcomes = rw (add-one i, ← is, a, ho, before, agreement (firstEvents i s) .answers x, agreement (firstEvents i s) .outputs x)
+  module _ (each : event.Event → History → List ℕ) where
+    next-bytes : bytesOf each (i + 1) s ≡ bytesOf each i s ++ each x (firstEvents i s)
+    unfolding bytesOf
+    next-bytes = rw (add-one i, ← is, a)
 
-    pub next-held : (d0 d : List ℕ) {d′ : List ℕ} → length (outcomesOf i s) ≡ 7 * i → d ≡ sets d0 0 (outcomesOf i s)
-        → d′ ≡ sets d (7 * i) (outcomeBytes (o .answer) (o .shown)) → d′ ≡ sets d0 0 (outcomesOf (i + 1) s)
-    next-held d0 d long held e = rw (next-outcomes, sets-append, ← held, long, zero-add) e
+    module _ (width : ℕ) (long : length (bytesOf each i s) ≡ width * i) where
+      pub next-long : ((e : event.Event) (h : History) → length (each e h) ≡ width) → length (bytesOf each (i + 1) s) ≡ width * (i + 1)
+      next-long size =
+          ap length next-bytes ∙ length-append (bytesOf each i s) (each x (firstEvents i s)) ∙ rw (long, size, add-one i, mul-suc width i)
 
-pub held-is : (s : List ℤ) (d0 d : List ℕ) (end i : ℕ) → i ≡ eventCountFrom end 0 s → d ≡ sets d0 0 (outcomesOf i s)
-    → d ≡ sets d0 0 (outcomesOf (eventCountFrom end 0 s) s)
-held-is s d0 d end i n h = rw (← n) h
+      pub next-held : (d0 d : List ℕ) {d′ bytes : List ℕ} → d ≡ sets d0 0 (bytesOf each i s) → bytes ≡ each x (firstEvents i s)
+          → d′ ≡ sets d (width * i) bytes → d′ ≡ sets d0 0 (bytesOf each (i + 1) s)
+      next-held d0 d held here e = rw (next-bytes, sets-append, ← held, long, zero-add, ← here) e
+
+pub held-is : (each : event.Event → History → List ℕ) (s : List ℤ) (d0 d : List ℕ) (end i : ℕ) → i ≡ eventCountFrom end 0 s
+    → d ≡ sets d0 0 (bytesOf each i s) → d ≡ sets d0 0 (bytesOf each (eventCountFrom end 0 s) s)
+held-is each s d0 d end i n h = rw (← n) h
 
 pub start-keeper : (s : List ℤ) {k : Keeper} → k ≡ Off → k ≡ run (firstEvents 0 s)
 unfolding firstEvents run
 start-keeper s e = e
 
-pub start-held : (s : List ℤ) (d : List ℕ) → d ≡ sets d 0 (outcomesOf 0 s)
-unfolding outcomesOf
-start-held s d = refl
+module _ (each : event.Event → History → List ℕ) (s : List ℤ) where
+  pub start-held : (d : List ℕ) → d ≡ sets d 0 (bytesOf each 0 s)
+  unfolding bytesOf
+  start-held d = refl
 
-pub start-long : (s : List ℤ) → length (outcomesOf 0 s) ≡ 7 * 0
-unfolding outcomesOf
-start-long s = refl
+  pub start-long : (width : ℕ) → length (bytesOf each 0 s) ≡ width * 0
+  unfolding bytesOf
+  start-long width = sym (mul-zero width)
 
 pub start-count : (s : List ℤ) (end : ℕ) → eventCountFrom (end - 0) 0 s ≡ eventCountFrom end 0 s
 start-count s end = rw sub-zero
@@ -137,47 +139,68 @@ start-count s end = rw sub-zero
 pub same-size : (d0 d t : List ℕ) (at : ℕ) {d′ : List ℕ} → length d ≡ length d0 → d′ ≡ sets d at t → length d′ ≡ length d0
 same-size d0 d t at h e = ap length e ∙ length-sets d at t ∙ h
 
+-- an outcome is what the rules say of the event, in seven bytes
+module _ (x : event.Event) (h : History) where
+  pub outcome-is : {k : Keeper} {o : Outcome} → k ≡ run h → o ≡ outcomeOf k x → outcomeBytes (o .answer) (o .shown) ≡ outcomeAfter x h
+  outcome-is before ho = rw (ho, before, agreement h .answers x, agreement h .outputs x)
+
+  pub outcome-long : length (outcomeAfter x h) ≡ 7
+  outcome-long = refl
+
 -- ---- the answer
 
-module _ (s : List ℤ) (d : List ℕ) where
-  uneven : 0 < length s % 4 → wellSized s d ≡ false
+module _ (width : ℕ) (s : List ℤ) (d : List ℕ) where
+  uneven : 0 < length s % 4 → wellSized width s d ≡ false
   uneven h = rw (ne-eqb (length s % 4) 0 (λ e. omega arith))
 
-  too-short : length d / 7 < length s / 4 → wellSized s d ≡ false
-  too-short h = rw (lt-leb (7 * (length s / 4)) (length d) (omega arith), and-false)
+  too-short : 0 < width → length d / width < length s / 4 → wellSized width s d ≡ false
+  too-short some h =
+      let over : length d < width * (length d / width + 1) = lt-mul-div-succ (length d) some in
+      let most : width * (length d / width + 1) ≤ width * (length s / 4) = mul-le-mul-left width (omega arith) in
+      rw (lt-leb (width * (length s / 4)) (length d) (omega arith), and-false)
 
-  well-sized : length s % 4 ≤ 0 → length s / 4 ≤ length d / 7 → wellSized s d ≡ true
-  well-sized h h′ = rw (eq-eqb (length s % 4) 0 (omega arith), le-leb (7 * (length s / 4)) (length d) (omega arith))
+  well-sized : length s % 4 ≤ 0 → width * (length s / 4) ≤ length d → wellSized width s d ≡ true
+  well-sized even room = rw (eq-eqb (length s % 4) 0 (omega arith), le-leb (width * (length s / 4)) (length d) room)
 
-  module _ (e : wellSized s d ≡ false) where
-    refused : Refused WrongSize ≡ stepsAnswer s d
-    unfolding stepsAnswer
-    refused = rw e
+  enough : length s / 4 ≤ length d / width → width * (length s / 4) ≤ length d
+  enough h =
+      let within : width * (length s / 4) ≤ width * (length d / width) = mul-le-mul-left width h in
+      let most : width * (length d / width) ≤ length d = mul-div-le (length d) width in
+      omega arith
 
-    refused-held : d ≡ stepsBuffer s d
-    unfolding stepsBuffer
-    refused-held = rw e
+  refused : wellSized width s d ≡ false → Refused WrongSize ≡ bytesAnswer width s d
+  unfolding bytesAnswer
+  refused e = rw e
 
-  pub uneven-refused : 0 < length s % 4 → Refused WrongSize ≡ stepsAnswer s d
+  pub uneven-refused : 0 < length s % 4 → Refused WrongSize ≡ bytesAnswer width s d
   uneven-refused h = refused (uneven h)
 
-  pub uneven-held : 0 < length s % 4 → d ≡ stepsBuffer s d
-  uneven-held h = refused-held (uneven h)
+  pub short-refused : 0 < width → length d / width < length s / 4 → Refused WrongSize ≡ bytesAnswer width s d
+  short-refused some h = refused (too-short some h)
 
-  pub short-refused : length d / 7 < length s / 4 → Refused WrongSize ≡ stepsAnswer s d
-  short-refused h = refused (too-short h)
+  pub answered : {n : ℕ} → length s % 4 ≤ 0 → length s / 4 ≤ length d / width → n ≡ eventCountFrom (length s / 4) 0 s
+      → End (width * n) ≡ bytesAnswer width s d
+  unfolding bytesAnswer eventCount
+  answered even room e = rw (well-sized even (enough room), e)
 
-  pub short-held : length d / 7 < length s / 4 → d ≡ stepsBuffer s d
-  short-held h = refused-held (too-short h)
+  pub all-fits : {n : ℕ} → length s / 4 ≤ length d / width → n ≤ length s / 4 → Fits w64 (length d) → Fits w64 (width * n)
+  all-fits {n} room h f =
+      let some : width * n ≤ width * (length s / 4) = mul-le-mul-left width h in
+      let all : width * (length s / 4) ≤ length d = enough room in
+      omega (arith, f)
 
-  module _ (even : length s % 4 ≤ 0) (room : length s / 4 ≤ length d / 7) where
-    pub answered : {n : ℕ} → n ≡ eventCountFrom (length s / 4) 0 s → End (7 * n) ≡ stepsAnswer s d
-    unfolding stepsAnswer eventCount
-    answered e = rw (well-sized even room, e)
+  module _ (each : event.Event → History → List ℕ) where
+    refused-held : wellSized width s d ≡ false → d ≡ bytesBuffer width each s d
+    unfolding bytesBuffer
+    refused-held e = rw e
 
-    pub answered-held : {d′ : List ℕ} → d′ ≡ sets d 0 (outcomesOf (eventCountFrom (length s / 4) 0 s) s) → d′ ≡ stepsBuffer s d
-    unfolding stepsBuffer eventCount
-    answered-held e = rw (well-sized even room) e
+    pub uneven-held : 0 < length s % 4 → d ≡ bytesBuffer width each s d
+    uneven-held h = refused-held (uneven h)
 
-pub all-fits : (s : List ℤ) (d : List ℕ) {n : ℕ} → length s / 4 ≤ length d / 7 → n ≤ length s / 4 → Fits w64 (length d) → Fits w64 (7 * n)
-all-fits s d h h′ f = omega (arith, f)
+    pub short-held : 0 < width → length d / width < length s / 4 → d ≡ bytesBuffer width each s d
+    short-held some h = refused-held (too-short some h)
+
+    pub answered-held : {d′ : List ℕ} → length s % 4 ≤ 0 → length s / 4 ≤ length d / width
+        → d′ ≡ sets d 0 (bytesOf each (eventCountFrom (length s / 4) 0 s) s) → d′ ≡ bytesBuffer width each s d
+    unfolding bytesBuffer eventCount
+    answered-held even room e = rw (well-sized even (enough room)) e

@@ -12,6 +12,7 @@ use Rattle.integer.specs.declared.Ranged.the-variants.{In, Out}
 use Rattle.event.specs.Kinds.{kinds, kindAt, eventOf}
 use Rattle.event.specs.Answers.{numberOf, dataOf}
 use Rattle.event.specs.declared.Numbers.{Numbers}
+use Rattle.event.specs.declared.Event as event
 use Rattle.event.specs.declared.Answer.{Answer}
 use Rattle.event.specs.declared.Shown.{Shown}
 use Rattle.event.specs.declared.Refusal.the-variants.{WrongSize}
@@ -60,29 +61,39 @@ unfoldable pub firstEvents : (n : ℕ) → List ℤ → History
 firstEvents zero s = []
 firstEvents (suc i) s = andBefore (eventNumbered s i) (firstEvents i s)
 
--- ---- outcomes
+-- ---- bytes for each event
 
--- answer, data, INT, THERM, FAN_FAULT, both duties
+-- what is put of the first n events, one behind the other: each by the event and those before it
+abbrev pub bytesAt : (each : event.Event → History → List ℕ) → Parsed → History → List ℕ
+bytesAt each (Event e) h = each e h
+bytesAt each Nothing h = []
+
+unfoldable pub bytesOf : (each : event.Event → History → List ℕ) → (n : ℕ) → List ℤ → List ℕ
+bytesOf each zero s = []
+bytesOf each (suc i) s = bytesOf each i s ++ bytesAt each (eventNumbered s i) (firstEvents i s)
+
+-- the numbers are whole events, and there is room in the buffer d for so many bytes of each
+abbrev pub wellSized : (width : ℕ) (s : List ℤ) (d : List ℕ) → Bool
+wellSized width s d = eqb (length s % 4) 0 && leb (width * (length s / 4)) (length d)
+
+-- where the bytes end in the buffer; or 11, and the buffer as it was
+unfoldable pub bytesAnswer : (width : ℕ) (s : List ℤ) (d : List ℕ) → Put
+bytesAnswer width s d = cond (wellSized width s d) (End (width * eventCount s)) (Refused WrongSize)
+
+unfoldable pub bytesBuffer : (width : ℕ) (each : event.Event → History → List ℕ) (s : List ℤ) (d : List ℕ) → List ℕ
+bytesBuffer width each s d = cond (wellSized width s d) (sets d 0 (bytesOf each (eventCount s) s)) d
+
+-- ---- outcomes: answer, data, INT, THERM, FAN_FAULT, both duties
+
 abbrev pub outcomeBytes : Answer → Shown → List ℕ
 outcomeBytes a s = numberOf a ∷ dataOf a ∷ s .int ∷ s .therm ∷ s .fault ∷ s .duty1 ∷ s .duty2 ∷ []
 
 -- what the rules say of the next event
-abbrev pub outcomeBytesAt : Parsed → History → List ℕ
-outcomeBytesAt (Event e) h = outcomeBytes (answer e h) (shown (taken (e ∷ h)))
-outcomeBytesAt Nothing h = []
+abbrev pub outcomeAfter : event.Event → History → List ℕ
+outcomeAfter e h = outcomeBytes (answer e h) (shown (taken (e ∷ h)))
 
--- the outcomes of the first n events
-unfoldable pub outcomesOf : (n : ℕ) → List ℤ → List ℕ
-outcomesOf zero s = []
-outcomesOf (suc i) s = outcomesOf i s ++ outcomeBytesAt (eventNumbered s i) (firstEvents i s)
-
--- the numbers are whole events, and there is room for the outcomes of all
-abbrev pub wellSized : (s : List ℤ) (d : List ℕ) → Bool
-wellSized s d = eqb (length s % 4) 0 && leb (7 * (length s / 4)) (length d)
-
--- where the outcomes end in the buffer d; or 11, and the buffer as it was
 unfoldable pub stepsAnswer : (s : List ℤ) (d : List ℕ) → Put
-stepsAnswer s d = cond (wellSized s d) (End (7 * eventCount s)) (Refused WrongSize)
+stepsAnswer s d = bytesAnswer 7 s d
 
 unfoldable pub stepsBuffer : (s : List ℤ) (d : List ℕ) → List ℕ
-stepsBuffer s d = cond (wellSized s d) (sets d 0 (outcomesOf (eventCount s) s)) d
+stepsBuffer s d = bytesBuffer 7 outcomeAfter s d

@@ -12,7 +12,7 @@ ghost use mathlib.Core.Path.{_≡_};
 ghost use Prim.Native.Nat.{_*_, _≤_};
 ghost use lib.ListN.{length};
 ghost use lib.Seq.{sets};
-ghost use Rattle.stepper.specs.Steps.{eventFrom, eventNumbered, eventCountFrom, outcomeBytes, outcomesOf, stepsAnswer, stepsBuffer};
+ghost use Rattle.stepper.specs.Steps.{eventFrom, eventNumbered, eventCountFrom, bytesOf, outcomeBytes, outcomeAfter, stepsAnswer, stepsBuffer};
 
 // Four numbers as an event; or nothing, where the first is the place of no kind.
 pub enum Parsed {
@@ -66,7 +66,8 @@ fn put_outcome(answer: Answer, shown: Shown, outcomes: &mut [u8], at: usize)
 fn step_all(numbers: &[i32], outcomes: &mut [u8], end: usize) -> usize
     requires { ⌜ 7 * end ≤ length (now outcomes) ⌝ }
     ensures { λ r. ⌜ (r ≡ eventCountFrom end 0 (now (numbers .entry))) × (r ≤ end) ⌝ }
-    ensures { λ _. ⌜ now (outcomes .exit) ≡ sets (now (outcomes .entry)) 0 (outcomesOf (eventCountFrom end 0 (now (numbers .entry))) (now (numbers .entry))) ⌝ }
+    ensures { λ _. ⌜ now (outcomes .exit)
+        ≡ sets (now (outcomes .entry)) 0 (bytesOf outcomeAfter (eventCountFrom end 0 (now (numbers .entry))) (now (numbers .entry))) ⌝ }
 {
     let mut k = Keeper::off();
     let mut i: usize = 0;

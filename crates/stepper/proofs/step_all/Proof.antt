@@ -5,9 +5,9 @@ use borrow.Author.Needs.{needs}
 use lib.ListN.{length}
 use lib.Seq.{sets}
 use Rattle.history.specs.Agreement.{run}
-use Rattle.stepper.specs.Steps.{eventCountFrom, firstEvents, outcomesOf}
+use Rattle.stepper.specs.Steps.{eventCountFrom, firstEvents, bytesOf, outcomeAfter}
 use Rattle.stepper.proofs.Laws.{room-fits, same-size, next-count, next-keeper, next-long, next-held, none-count, end-count, held-is, start-keeper}
-use Rattle.stepper.proofs.Laws.{start-held, start-long, start-count}
+use Rattle.stepper.proofs.Laws.{start-held, start-long, start-count, outcome-is, outcome-long}
 use Rattle.stepper.proofs.step_all.Statement.{statement}
 use Rattle.stepper.proofs.step_all.Tie as tie
 
@@ -16,8 +16,8 @@ Inv-loop numbers outcomes₀ end k₀ i₀ outcomes k i =
     (i ≤ end)
     × (length outcomes ≡ length outcomes₀)
     × (k ≡ run (firstEvents i numbers))
-    × (outcomes ≡ sets outcomes₀ 0 (outcomesOf i numbers))
-    × (length (outcomesOf i numbers) ≡ 7 * i)
+    × (outcomes ≡ sets outcomes₀ 0 (bytesOf outcomeAfter i numbers))
+    × (length (bytesOf outcomeAfter i numbers) ≡ 7 * i)
     × (eventCountFrom (end - i) i numbers ≡ eventCountFrom end 0 numbers)
 
 abbrev μ-loop : tie.MeasureT-loop
@@ -51,7 +51,7 @@ loop-less : tie.Need-loop-less Inv-loop μ-loop
 loop-less c = omega arith
 
 loop-again : tie.Need-loop-again Inv-loop μ-loop
-loop-again c = (omega arith, search same-size, search next-keeper, search next-held, search next-long, search next-count)
+loop-again c = (omega arith, search same-size, search next-keeper, search (next-held, outcome-is), search (next-long, outcome-long), search next-count)
 
 enum-told : tie.Need-enum-told Inv-loop μ-loop
 enum-told c = search needs
