@@ -11,8 +11,8 @@
 extern "C" {
 #endif
 
-/* What snezhulka_replay, snezhulka_steps and snezhulka_wrong_line give where input or buffer has the wrong size (reply 11);
-   the buffer is then as it was. */
+/* What snezhulka_replay, snezhulka_steps, snezhulka_reasons and snezhulka_wrong_line give where input or buffer has the wrong
+   size (reply 11); the buffer is then as it was. */
 #define SNEZHULKA_WRONG_SIZE SIZE_MAX
 
 /* Replays a trace text of at most 65,536 bytes into `report` and gives the length of the report.
@@ -24,6 +24,15 @@ size_t snezhulka_replay(const uint8_t *text, size_t text_len, uint8_t *report, s
    fault, duty1, duty2. Gives how many bytes those are; the events end before the first that has another kind.
    `count` is the number of numbers; `outcomes` must have room for the outcomes of all events. */
 size_t snezhulka_steps(const int32_t *numbers, size_t count, uint8_t *outcomes, size_t outcomes_len);
+
+/* Why both fans have their duties after each of the same events. Puts eight bytes for each event into `reasons`: for fan 1,
+   then for fan 2, the number of the reason and its three values, 0 where it has fewer:
+     1 output disabled; 2 THERM pulled low from outside; 3 a THERM latch: the lowest channel whose latch is on; 4 target 0;
+     5 spinning up: the clock events left; 6 on the ramp: the slots left, 1 for up or 0 for down, the target; 7 set by hand;
+     8 demand of a channel: the lowest one that demands the most. Channels are 0 local, 1, 2 remote.
+   Before the first accepted power they are 0, the reply number 1, 0, 0. Gives how many bytes those are; the events end before
+   the first that has another kind. `reasons` must have room for the reasons after all events. */
+size_t snezhulka_reasons(const int32_t *numbers, size_t count, uint8_t *reasons, size_t reasons_len);
 
 /* Steps a keeper that never had power through the same events and puts its register image into the first 64 bytes of
    `image`: at each place what a read of that address would return, 0 where there is no register. Gives the reply number:

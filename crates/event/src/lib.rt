@@ -1,5 +1,6 @@
-// The vocabulary of the chip's border: the events that it takes, the answers that it gives, the outputs that it shows.
+// The vocabulary of the chip's border: the events that it takes, the answers that it gives, the outputs that it shows, the reasons for them.
 // Nothing here acts; every crate above speaks in these terms.
+use part::ChannelId;
 ghost use mathlib.Core.Path.{_≡_};
 ghost use Rattle.event.specs.Kinds.{kindOf, numbersOf, eventOf, placeOf, kindAt};
 ghost use Rattle.event.specs.Answers.{refusalNumber, numberOf, dataOf};
@@ -233,4 +234,30 @@ pub struct Shown {
 pub struct AlertEntry {
     pub address: u8,
     pub asserting: bool,
+}
+
+// A fan on its way to its target: the slots that are left, whether upward, and the target.
+pub struct Ramp {
+    pub left: u8,
+    pub up: bool,
+    pub target: u8,
+}
+
+// Why a fan has its duty (T-03 of document 02), in the order in which they are asked: the channel is the lowest whose latch is
+// on; the number of a spin-up is the clock events left; the channel of a demand is the lowest that asks the most.
+pub enum Reason {
+    Disabled,
+    PinLow,
+    Therm(ChannelId),
+    NoTarget,
+    SpinUp(u8),
+    Ramp(Ramp),
+    Manual,
+    Demand(ChannelId),
+}
+
+// What is told of a fan: a reason, or why there is none.
+pub enum Why {
+    Because(Reason),
+    Refused(Refusal),
 }

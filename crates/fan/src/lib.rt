@@ -30,7 +30,7 @@ pub struct Fan {
 }
 
 // What a channel asks of a fan in automatic mode.
-fn channel_asked(f: FanId, c: ChannelId, s: Registers, l: ChannelRegisters, ch: Channel) -> u8
+pub fn channel_asked(f: FanId, c: ChannelId, s: Registers, l: ChannelRegisters, ch: Channel) -> u8
     ensures { λ r. ⌜ r ≡ demandIf (assignedBy (assignment (s .config1)) f c) (channelDemand f (s .speeds) l ch) ⌝ }
 {
     demand::asked(

@@ -40,6 +40,7 @@ use Rattle.keeper.specs.Keeping.{isOn, deviceIn, standingOf, outcomeOf, shownBy
 use Rattle.keeper.specs.declared.Keeper.{Keeper}
 use Rattle.keeper.specs.declared.Keeper.the-variants.{Off, On}
 use Rattle.keeper.specs.declared.Outcome.{Outcome}
+use Rattle.reason.specs.Reasoning.{whyOf}
 use Rattle.history.specs.Agreement.{run, Agreement}
 use Rattle.history.proofs.State.{portBy, channelRegistersBy, fanRegistersBy, registersBy, contextBy, channelBy, channelsBy, fanBy, chipBy}
 use Rattle.history.proofs.State.{deviceBy, stateBy}
@@ -49,6 +50,7 @@ use Rattle.history.proofs.AcceptedLaws.{restart-is}
 use Rattle.history.proofs.StepLaws.{where-on, port-is, registers-is, channels-is}
 use Rattle.history.proofs.FanLaws.{fan-is}
 use Rattle.history.proofs.ValueLaws.{value-is, due-is, shown-on, status-is}
+use Rattle.history.proofs.ReasonLaws.{why-is}
 
 -- ---- one event
 
@@ -174,4 +176,5 @@ agreement h =
       shows = ap shownBy (agree h) ∙ shows-is (took h);
       image = λ buffer. ap (λ (k : Keeper). keeping.imageAnswer k buffer) (agree h) ∙ image-is (taken h) buffer;
       buffer = λ buffer. ap (λ (k : Keeper). keeping.imageBuffer k buffer) (agree h) ∙ buffer-is (took h) buffer;
+      why = λ fan. ap (λ (k : Keeper). whyOf k fan) (agree h) ∙ why-is (taken h) fan;
     }

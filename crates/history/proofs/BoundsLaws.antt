@@ -69,7 +69,7 @@ code-small : (f : FanId) (byte : ℕ) → 16 * speedCode f byte ≤ 240
 code-small One byte = omega arith
 code-small Two byte = omega arith
 
-target-small : (f : FanId) (d : Taken) → target f d ≤ 240
+pub target-small : (f : FanId) (d : Taken) → target f d ≤ 240
 unfolding target targetOf
 target-small f d =
     let to = assignedBy (assignment (storedAt config1 d)) f in

@@ -41,7 +41,7 @@ use Rattle.history.proofs.HeldLaws.{held}
 -- ---- what is asked of a fan
 
 module _ (f : FanId) (d : Taken) where
-  demand-is : (c : ChannelId)
+  pub demand-is : (c : ChannelId)
       → demandOf (flag c d) (speedCode f (storedAt speeds d)) (tminOf (storedAt (controlAt c) d)) (rangeOf (storedAt (controlAt c) d))
       (eighthsHeld (temperature c d)) ≡ demand f c d
   unfolding demand

@@ -3,6 +3,7 @@ pub mod AcceptedLaws
 pub mod HeldLaws
 pub mod StepLaws
 pub mod FanLaws
+pub mod ReasonLaws
 pub mod ValueLaws
 pub mod Agree
 pub mod Demand1Laws
@@ -16,5 +17,6 @@ pub mod BoundsLaws
 pub mod ReadbackLaws
 pub mod CountsLaws
 pub mod AlertWitnessLaws
+pub mod ReasonWitnessLaws
 pub mod WitnessLaws
 pub mod Proved

@@ -26,6 +26,7 @@ use Rattle.history.specs.Witness.{started, startedFiltered, spunUp, ramp
 use Rattle.history.proofs.MovingTargetLaws.{shown-is}
 use Rattle.history.proofs.StillTargetLaws as still
 use Rattle.history.proofs.AlertWitnessLaws.{alert-witness}
+use Rattle.history.proofs.ReasonWitnessLaws.{reason-witness}
 
 -- a stretch by one test that computes
 aims : FanId → (a b : ℕ) → History → Bool
@@ -105,4 +106,5 @@ witness =
       above = record { goes = refl; then = refl };
       below = record { goes = refl; then = refl };
       alerts = alert-witness;
+      reasons = reason-witness;
     }

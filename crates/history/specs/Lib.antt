@@ -7,5 +7,6 @@ pub mod Bounds
 pub mod Readback
 pub mod Counts
 pub mod AlertWitness
+pub mod ReasonWitness
 pub mod Witness
 pub mod Proved

@@ -1,5 +1,5 @@
 -- Demand 3 and T-13 speak of something: lists whose stretch meets every premise, with a gap and periods above 0. So do T-01: samples under offsets,
--- and T-02: alerts.
+-- T-02: alerts, and T-03: reasons.
 use mathlib.Core.Path.{_≡_}
 use mathlib.Core.Bool.{true, false}
 use mathlib.Core.List.{List, [], _∷_, _++_}
@@ -17,6 +17,7 @@ use Rattle.drive.specs.Ramp.{outside}
 use Rattle.history.specs.Demand3.{shownDuty, spinLeft, periodsIn, Stretch}
 use Rattle.history.specs.MovingTarget.{MovingStretch}
 use Rattle.history.specs.AlertWitness.{AlertWitness}
+use Rattle.history.specs.ReasonWitness.{ReasonWitness}
 
 -- power at address 44; a spin-up of 2 clocks (0x20); manual setting of 5 x 16 slots (0x00): the fan starts
 abbrev pub started : History
@@ -136,3 +137,5 @@ pub record Witness : Type 0 where
   pub below : Reads Remote1 (negsuc 1000) (negsuc 1023)
   -- alerts
   pub alerts : AlertWitness
+  -- reasons
+  pub reasons : ReasonWitness

@@ -29,11 +29,11 @@ use Rattle.rules.proofs.SoundLaws.{wanted}
 
 -- ---- a table: what holds of each code below n holds of the code that is looked up
 
-abbrev Each : ℕ → (ℕ → Type 0) → Type 0
+abbrev pub Each : ℕ → (ℕ → Type 0) → Type 0
 Each zero P = Unit
 Each (suc n) P = P 0 × Each n (λ k. P (suc k))
 
-at-each : (n : ℕ) (P : ℕ → Type 0) → Each n P → (k : ℕ) → k < n → P k
+pub at-each : (n : ℕ) (P : ℕ → Type 0) → Each n P → (k : ℕ) → k < n → P k
 at-each zero P a k h = absurd (omega arith)
 at-each (suc n) P a zero h = a .0
 at-each (suc n) P a (suc k) h = at-each n (λ k. P (suc k)) (a .1) k (omega arith)

@@ -36,4 +36,8 @@ pub mod SilenceLaws
 pub mod PageAlertsLaws
 pub mod AlertRowLaws
 pub mod PageAlertRowLaws
+pub mod ReasonLaws
+pub mod ReasonPlaceLaws
+pub mod ReasonFactLaws
+pub mod PageReasonsLaws
 pub mod PageLaws

@@ -9,6 +9,7 @@ use Rattle.rules.proofs.PageStaysLaws.{page-stays}
 use Rattle.rules.proofs.PageOffsetsLaws.{page-offsets}
 use Rattle.rules.proofs.PageAlertsLaws.{page-alerts}
 use Rattle.rules.proofs.PageAlertRowLaws.{page-alert-row}
+use Rattle.rules.proofs.PageReasonsLaws.{page-reasons}
 
 pub page : (h : History) → Page h
 page h =
@@ -21,4 +22,5 @@ page h =
       offsets = page-offsets h;
       alerts = page-alerts h;
       alertRow = page-alert-row;
+      reasons = page-reasons h;
     }

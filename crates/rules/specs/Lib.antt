@@ -9,6 +9,7 @@ pub mod Targets
 pub mod Duties
 pub mod Shows
 pub mod AlertRow
+pub mod Reasons
 pub mod PageWords
 pub mod PageReplies
 pub mod PageTemperatures
@@ -17,4 +18,5 @@ pub mod PageStays
 pub mod PageOffsets
 pub mod PageAlerts
 pub mod PageAlertRow
+pub mod PageReasons
 pub mod Page

@@ -1,4 +1,4 @@
--- The page: every sentence of document 01, and of T-01 and T-02 of document 02, that says what the chip does, a second time,
+-- The page: every sentence of document 01, and of T-01, T-02 and T-03 of document 02, that says what the chip does, a second time,
 -- over events with their numbers and over what a user sees.
 use mathlib.Core.List.{List}
 use Rattle.event.specs.declared.AlertEntry.{AlertEntry}
@@ -10,6 +10,7 @@ use Rattle.rules.specs.PageStays.{PageStays}
 use Rattle.rules.specs.PageOffsets.{PageOffsets}
 use Rattle.rules.specs.PageAlerts.{PageAlerts}
 use Rattle.rules.specs.PageAlertRow.{PageAlertRow}
+use Rattle.rules.specs.PageReasons.{PageReasons}
 
 pub record Page (h : History) : Type 0 where
   pub replies : PageReplies h
@@ -20,3 +21,4 @@ pub record Page (h : History) : Type 0 where
   pub offsets : PageOffsets h
   pub alerts : PageAlerts h
   pub alertRow : (row : List AlertEntry) → PageAlertRow row
+  pub reasons : PageReasons h

@@ -1,7 +1,8 @@
-// The replay, the engine, the register image, the rewriter and the alert search for programs in C and Rust: slices in, a number out.
+// The replay, the engine, the reasons, the register image, the rewriter and the alert search for programs in C and Rust: slices in, a number out.
 // A slice is passed as pointer and number of elements; no pointer may be null, and two of one call may not overlap:
 // size_t snezhulka_replay(const uint8_t *text, size_t text_len, uint8_t *report, size_t report_len);
 // size_t snezhulka_steps(const int32_t *numbers, size_t count, uint8_t *outcomes, size_t outcomes_len);
+// size_t snezhulka_reasons(const int32_t *numbers, size_t count, uint8_t *reasons, size_t reasons_len);
 // size_t snezhulka_image(const int32_t *numbers, size_t count, uint8_t *image, size_t image_len);
 // size_t snezhulka_rewrite(const uint8_t *text, size_t text_len, uint8_t *copy, size_t copy_len);
 // size_t snezhulka_wrong_line(const uint8_t *text, size_t text_len, uint8_t *line, size_t line_len);
@@ -16,6 +17,7 @@ ghost use Rattle.rules.specs.AlertRow.{rowAnswer, rowAfter};
 ghost use Rattle.buffer.specs.Put.{putOf, heldOf, endOf};
 ghost use Rattle.player.specs.Report.{replayAnswer, replayBuffer};
 ghost use Rattle.stepper.specs.Steps.{stepsAnswer, stepsBuffer};
+ghost use Rattle.reasoner.specs.Reasons.{reasonsAnswer, reasonsBuffer};
 ghost use Rattle.imager.specs.Image.{imageAfter, imageLeft};
 ghost use Rattle.rewriter.specs.Rewritten.{copyEnd};
 ghost use Rattle.rewriter.specs.Wrong.{wrongLine};
@@ -42,6 +44,18 @@ pub extern "C" fn snezhulka_steps(numbers: &[i32], outcomes: &mut [u8]) -> usize
     ensures { λ _. ⌜ now (outcomes .exit) ≡ stepsBuffer (now (numbers .entry)) (now (outcomes .entry)) ⌝ }
 {
     buffer::end_of(stepper::steps(numbers, outcomes), REFUSED)
+}
+
+// Why both fans have their duties after each of the same events, eight bytes an event: for fan 1, then fan 2, the number of the
+// reason from 1 to 8 and its three values, 0 where it has fewer; 0, the reply and two zeros before the first accepted power.
+// How many bytes, up to the first event of another kind; or the largest number, where the numbers are no whole events or the
+// buffer is too short for all, and the buffer as it was.
+#[no_mangle]
+pub extern "C" fn snezhulka_reasons(numbers: &[i32], reasons: &mut [u8]) -> usize
+    ensures { λ r. ⌜ r ≡ endOf (reasonsAnswer (now (numbers .entry)) (now (reasons .entry))) noLength ⌝ }
+    ensures { λ _. ⌜ now (reasons .exit) ≡ reasonsBuffer (now (numbers .entry)) (now (reasons .entry)) ⌝ }
+{
+    buffer::end_of(reasoner::reasons(numbers, reasons), REFUSED)
 }
 
 // The register image after the same events, in the first 64 bytes of the buffer: its reply number, 0, 1 or 11; 10 where

@@ -6,3 +6,4 @@ pub mod Events
 pub mod Onward
 pub mod RoundTrip
 pub mod Canonical
+pub mod WholeLaws

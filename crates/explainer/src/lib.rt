@@ -1,0 +1,50 @@
+// Trace text in, why both fans have their duties after its last event out, as lines.
+// A buffer too short for the lines stays as it was.
+mod words;
+
+use buffer::Put;
+use event::Refusal;
+use event::Why;
+use runner::Reached;
+ghost use mathlib.Core.Path.{_≡_};
+ghost use Rattle.event.specs.Answers.{refusalNumber};
+ghost use Rattle.buffer.specs.Put.{putOf, heldOf};
+ghost use Rattle.report.specs.Report.{answerText};
+ghost use Rattle.explainer.specs.Explained.{toldText, explained};
+
+// The line of a refusal's number.
+fn put_refusal(r: Refusal, buf: &mut [u8]) -> Put
+    ensures { λ p. ⌜ p ≡ putOf (now (buf .entry)) 0 (answerText (refusalNumber r)) ⌝ }
+    ensures { λ _. ⌜ now (buf .exit) ≡ heldOf (now (buf .entry)) 0 (answerText (refusalNumber r)) ⌝ }
+{
+    report::put_number(event::refusal_number(r), buf, 0)
+}
+
+// What is told of both fans.
+fn put_told(one: Why, two: Why, buf: &mut [u8]) -> Put
+    ensures { λ p. ⌜ p ≡ putOf (now (buf .entry)) 0 (toldText one two) ⌝ }
+    ensures { λ _. ⌜ now (buf .exit) ≡ heldOf (now (buf .entry)) 0 (toldText one two) ⌝ }
+{
+    match one {
+        Why::Because(a) => match two {
+            Why::Because(b) => words::put_lines(a, b, buf),
+            Why::Refused(r) => put_refusal(r, buf),
+        },
+        Why::Refused(r) => put_refusal(r, buf),
+    }
+}
+
+// The lines of a text into a lent buffer: where they end; or 11, and the buffer as it was.
+pub fn explain(text: &[u8], buf: &mut [u8]) -> Put
+    ensures { λ p. ⌜ p ≡ putOf (now (buf .entry)) 0 (explained (now (text .entry))) ⌝ }
+    ensures { λ _. ⌜ now (buf .exit) ≡ heldOf (now (buf .entry)) 0 (explained (now (text .entry))) ⌝ }
+{
+    if 65536 < text.len() {
+        return put_refusal(Refusal::WrongSize, buf);
+    }
+    let ran = runner::run(text);
+    let Reached::Keeper(k) = ran else {
+        return put_refusal(Refusal::Malformed, buf);
+    };
+    put_told(reason::why(k, 1), reason::why(k, 2), buf)
+}

@@ -1,0 +1,142 @@
+// Why a fan of a keeper has its duty (T-03 of document 02): the first of eight reasons that holds, with its numbers.
+// It stands beside the keeper and changes nothing.
+use channel::Channels;
+use chip::Chip;
+use drive::Drive;
+use drive::Setting;
+use event::Ramp;
+use event::Reason;
+use event::Refusal;
+use event::Why;
+use keeper::Keeper;
+use part::ChannelId;
+use part::FanId;
+use stored::Registers;
+ghost use mathlib.Core.Path.{_≡_};
+ghost use mathlib.Core.Bool.{not, _&&_};
+ghost use lib.Dec.{eqb};
+ghost use Rattle.rules.specs.Reasons.{lowestWith, rampTo};
+ghost use Rattle.reason.specs.Reasoning.{latchedIn, askingIn, reasonUnder, driveOf, reasonOf, whyIn, whyOf};
+
+// The first of the channels that is named; the last, where neither of the others is.
+fn lowest_with(local: bool, remote1: bool) -> ChannelId
+    ensures { λ c. ⌜ c ≡ lowestWith local remote1 ⌝ }
+{
+    if local {
+        return ChannelId::Local;
+    }
+    if remote1 {
+        ChannelId::Remote1
+    } else {
+        ChannelId::Remote2
+    }
+}
+
+// The lowest channel whose latch is on.
+fn latched_in(cs: Channels) -> ChannelId
+    ensures { λ c. ⌜ c ≡ latchedIn cs ⌝ }
+{
+    lowest_with(cs.local.latch, cs.remote1.latch)
+}
+
+// The lowest channel that asks for the target, the largest demand.
+fn asking_in(f: FanId, target: u8, s: Registers, cs: Channels) -> ChannelId
+    ensures { λ c. ⌜ c ≡ askingIn f target s cs ⌝ }
+{
+    let local = fan::channel_asked(f, ChannelId::Local, s, s.local, cs.local);
+    let remote1 = fan::channel_asked(f, ChannelId::Remote1, s, s.remote1, cs.remote1);
+    lowest_with(local == target, remote1 == target)
+}
+
+// How far the duty is from the target, and on which side.
+fn ramp_to(target: u8, duty: u8) -> Ramp
+    ensures { λ r. ⌜ r ≡ rampTo target duty ⌝ }
+{
+    if duty < target {
+        Ramp {
+            left: target - duty,
+            up: true,
+            target,
+        }
+    } else {
+        Ramp {
+            left: duty - target,
+            up: false,
+            target,
+        }
+    }
+}
+
+// Whether a filtered fan is on its way.
+fn on_the_way(s: Setting, w: Drive) -> bool
+    ensures { λ b. ⌜ b ≡ (s .filtered && not (eqb (w .duty) (s .target))) ⌝ }
+{
+    s.filtered & (w.duty != s.target)
+}
+
+// By what is asked of a fan, and by its duty and spin-up.
+fn reason_under(f: FanId, s: Setting, w: Drive, k: Chip) -> Reason
+    ensures { λ r. ⌜ r ≡ reasonUnder f s w k ⌝ }
+{
+    if !s.enabled {
+        return Reason::Disabled;
+    }
+    if k.port.pin_low {
+        return Reason::PinLow;
+    }
+    if s.overridden {
+        return Reason::Therm(latched_in(k.channels));
+    }
+    if s.target == 0 {
+        return Reason::NoTarget;
+    }
+    if 0 < w.left {
+        return Reason::SpinUp(w.left);
+    }
+    if on_the_way(s, w) {
+        return Reason::Ramp(ramp_to(s.target, w.duty));
+    }
+    if !integer::bit(k.registers.config1, 7) {
+        return Reason::Manual;
+    }
+    Reason::Demand(asking_in(f, s.target, k.registers, k.channels))
+}
+
+fn drive_of(f: FanId, k: Chip) -> Drive
+    ensures { λ w. ⌜ w ≡ driveOf f k ⌝ }
+{
+    match f {
+        FanId::One => k.fan1.drive,
+        FanId::Two => k.fan2.drive,
+    }
+}
+
+fn reason_of(f: FanId, k: Chip) -> Reason
+    ensures { λ r. ⌜ r ≡ reasonOf f k ⌝ }
+{
+    let s = fan::setting(f, k.port.pin_low, k.registers, k.channels);
+    reason_under(f, s, drive_of(f, k), k)
+}
+
+// Of the fan of a number, where the chip has power.
+fn why_in(fan: i32, k: Chip) -> Why
+    ensures { λ r. ⌜ r ≡ whyIn fan k ⌝ }
+{
+    if fan == 1 {
+        return Why::Because(reason_of(FanId::One, k));
+    }
+    if fan == 2 {
+        return Why::Because(reason_of(FanId::Two, k));
+    }
+    Why::Refused(Refusal::NoSuchPart)
+}
+
+// Why the fan of a number has its duty: 1 before the first power, 3 for a number that is neither fan's.
+pub fn why(k: Keeper, fan: i32) -> Why
+    ensures { λ r. ⌜ r ≡ whyOf k fan ⌝ }
+{
+    match k {
+        Keeper::Off => Why::Refused(Refusal::NoPower),
+        Keeper::On(d) => why_in(fan, d.chip),
+    }
+}

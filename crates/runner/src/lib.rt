@@ -1,0 +1,30 @@
+// A keeper that never had power through a whole trace text.
+// Who asks something of the keeper after the last event asks it here first.
+use keeper::Keeper;
+use trace::Reading;
+ghost use mathlib.Core.Path.{_≡_};
+ghost use Rattle.trace.specs.Whole.{eventsOf};
+ghost use Rattle.runner.specs.Reached.{reachedBy};
+
+// The keeper that the events of a text leave; or that one of its lines is wrong or missing.
+pub enum Reached {
+    Keeper(Keeper),
+    Malformed,
+}
+
+pub fn run(text: &[u8]) -> Reached
+    ensures { λ r. ⌜ r ≡ reachedBy (eventsOf (now (text .entry))) ⌝ }
+{
+    let mut k = Keeper::off();
+    let mut at: usize = 0;
+    while at < text.len() {
+        let reading = trace::event_at(text, at);
+        let Reading::Event(e, next) = reading else {
+            return Reached::Malformed;
+        };
+        let o = keeper::step(k, e);
+        k = o.keeper;
+        at = next;
+    }
+    Reached::Keeper(k)
+}
