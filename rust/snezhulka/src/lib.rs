@@ -1,8 +1,12 @@
-//! Safe calls of the proved fan keeper: a trace text in and a report out, or events in and outcomes or a register
-//! image out; a trace text read and written again; its first wrong line; and who pulled an alert line that several
-//! keepers share.
+//! Safe calls of the proved fan keeper: a trace text in and a report out, or events in and outcomes, a register image
+//! or the reasons of the fans out; a trace text read and written again; its first wrong line; and who pulled an alert
+//! line that several keepers share.
 
 use std::fmt;
+
+mod reasons;
+
+pub use reasons::{reasons, Reason, Why};
 
 /// The longest trace text that is taken, in bytes.
 pub const LONGEST_TEXT: usize = 65_536;
@@ -26,6 +30,14 @@ mod library {
             count: usize,
             outcomes: *mut u8,
             outcomes_len: usize,
+        ) -> usize;
+
+        // How many bytes of reasons there are, or usize::MAX as above.
+        pub fn snezhulka_reasons(
+            numbers: *const i32,
+            count: usize,
+            reasons: *mut u8,
+            reasons_len: usize,
         ) -> usize;
 
         // The reply number of the register image.

@@ -1,6 +1,7 @@
 //! What the compared traces and reports have reached.
 
 use crate::alerts::{self, Alerts};
+use crate::facts::Facts;
 use crate::offsets::{Offsets, CASES};
 use snezhulka::Event;
 
@@ -18,6 +19,7 @@ pub struct Coverage {
     duties: [bool; FULL_DUTY + 1],
     samples: [[u64; 3]; CASES.len()],
     alerts: [u64; alerts::CASES.len()],
+    facts: Facts,
 }
 
 impl Coverage {
@@ -33,13 +35,15 @@ impl Coverage {
             duties: [false; FULL_DUTY + 1],
             samples: [[0; 3]; CASES.len()],
             alerts: [0; alerts::CASES.len()],
+            facts: Facts::none(),
         }
     }
 
-    /// Counts the lines of one report, and what samples and alerts meet where every line of the trace is right.
+    /// Counts the lines of one report, and what samples, alerts and fans meet where every line of the trace is right.
     pub fn count(&mut self, events: Option<&[Event]>, report: &[u8]) {
         self.traces += 1;
         self.count_alerts(events.unwrap_or_default());
+        self.facts.count(events.unwrap_or_default());
         let mut events = events.unwrap_or_default().iter();
         let mut offsets = Offsets::none();
         for line in report.split(|&byte| byte == b'\n') {
@@ -107,6 +111,7 @@ impl Coverage {
         for (sum, more) in self.alerts.iter_mut().zip(other.alerts) {
             *sum += more;
         }
+        self.facts.add(&other.facts);
     }
 
     fn distinct_duties(&self) -> usize {
@@ -129,6 +134,7 @@ impl Coverage {
         for (case, count) in alerts::CASES.iter().zip(self.alerts) {
             println!("{case:<26} {count:>10}");
         }
+        self.facts.print();
     }
 
     /// What was never reached; nothing if all was.
@@ -161,6 +167,7 @@ impl Coverage {
                 missing.push(case.to_string());
             }
         }
+        missing.extend(self.facts.missing());
         missing
     }
 }
@@ -222,6 +229,6 @@ mod tests {
 
     #[test]
     fn nothing_reached_is_missing() {
-        assert_eq!(Coverage::none().missing().len(), 46);
+        assert_eq!(Coverage::none().missing().len(), 146);
     }
 }

@@ -3,11 +3,16 @@
 pub mod alerts;
 pub mod coverage;
 pub mod events;
+pub mod explain;
+pub mod facts;
+pub mod finding;
 pub mod images;
 pub mod lines;
 pub mod offsets;
 pub mod program;
 pub mod random;
+pub mod reasons;
 pub mod rows;
 pub mod shrink;
 pub mod traces;
+pub mod whys;

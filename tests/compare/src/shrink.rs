@@ -4,7 +4,7 @@
 const MOST_SHOWN: usize = 200;
 
 /// The parts of `text` of so many lines each; the last may have fewer.
-fn parts(text: &[u8], lines: usize) -> Vec<&[u8]> {
+pub fn parts(text: &[u8], lines: usize) -> Vec<&[u8]> {
     let mut parts = Vec::new();
     let (mut start, mut seen) = (0, 0);
     for (place, &byte) in text.iter().enumerate() {

@@ -1,5 +1,7 @@
 //! The worked example and the bench cards of 01, and cards for its other rules.
 
+mod reasons;
+
 use crate::keeper::{Event, Keeper, Kind, Reply};
 use crate::replay;
 use crate::row::{search, Entry};

@@ -7,7 +7,10 @@ mod counts;
 mod fans;
 mod fields;
 mod image;
+mod reasons;
 mod replies;
+
+pub use reasons::Reason;
 
 #[derive(Clone, Copy, PartialEq, Eq, Debug)]
 pub enum Kind {

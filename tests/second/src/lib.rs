@@ -1,13 +1,15 @@
 //! A replay of fan controller traces: the chip is in `keeper`, its register
 //! table in `table`, the trace reader and the report in `text`; the search of
-//! several keepers on one line in `row`.
+//! several keepers on one line in `row`; why the fans run as they do in `why`.
 
 pub mod keeper;
 pub mod row;
 pub mod table;
 pub mod text;
+pub mod why;
 
 #[cfg(test)]
 mod cards;
 
 pub use text::replay;
+pub use why::why;

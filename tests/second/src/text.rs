@@ -27,6 +27,16 @@ pub fn replay(text: &[u8]) -> Vec<u8> {
     report
 }
 
+/// Every event of a text, if no line of it is wrong or missing.
+pub fn events(text: &[u8]) -> Option<Vec<Event>> {
+    let mut reader = Reader::new(text);
+    let mut events = Vec::new();
+    while reader.place < text.len() {
+        events.push(reader.event()?);
+    }
+    Some(events)
+}
+
 /// Where the last event ends that is well-formed, as those before it, and lies within the first `room` bytes.
 pub fn whole_events(text: &[u8], room: usize) -> usize {
     let mut reader = Reader::new(text);

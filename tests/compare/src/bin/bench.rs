@@ -1,5 +1,5 @@
-//! Times the proved replay, and the engine alone, beside the second program, on the same traces in one run:
-//! medians over rounds, as a ratio.
+//! Times the proved replay, the engine alone, and the engine with the reasons after each event, beside the second program,
+//! on the same traces in one run: medians over rounds, as a ratio.
 
 use compare::{events, traces};
 use second::keeper::{Event, Keeper, Reply};
@@ -102,14 +102,33 @@ fn engines(text: &[u8]) -> (f64, f64) {
     medians(ROUND_BYTES / text.len(), &mut ours, &mut theirs)
 }
 
+/// Events to the reasons of both fans after each, in nanoseconds.
+fn tellings(text: &[u8]) -> (f64, f64) {
+    let events = events::events_of(text).expect("every line is right");
+    let mut ours = || {
+        black_box(snezhulka::reasons(black_box(&events)));
+    };
+    let own_events: Vec<Event> = events.iter().map(events::second_event).collect();
+    let mut theirs = || {
+        let mut keeper = Keeper::new();
+        let told = black_box(&own_events).iter().map(|&event| {
+            keeper.take(event);
+            [keeper.why(1), keeper.why(2)]
+        });
+        black_box(told.collect::<Vec<_>>());
+    };
+    medians(ROUND_BYTES / text.len(), &mut ours, &mut theirs)
+}
+
 /// One line: a size, and both programs on it.
 fn measure(size: usize) {
     let text = text_of(size);
     let events = text.iter().filter(|&&byte| byte == b'\n').count() as f64 / 4.0;
     let (ours, theirs) = replays(&text);
     let (our_engine, their_engine) = engines(&text);
+    let (our_reasons, their_reasons) = tellings(&text);
     println!(
-        "{size:>7} {:>10.0} {:>10.0} {:>10.1} {:>10.1} {:>7.2} {:>10.0} {:>10.0} {:>7.2}",
+        "{size:>7} {:>10.0} {:>10.0} {:>10.1} {:>10.1} {:>7.2} {:>10.0} {:>10.0} {:>7.2} {:>10.0} {:>10.0} {:>7.2}",
         ours / events,
         theirs / events,
         text.len() as f64 * 1e3 / ours,
@@ -118,6 +137,9 @@ fn measure(size: usize) {
         our_engine / events,
         their_engine / events,
         their_engine / our_engine,
+        our_reasons / events,
+        their_reasons / events,
+        their_reasons / our_reasons,
     );
 }
 
@@ -137,9 +159,9 @@ fn print_trace(size: usize) {
 }
 
 fn measure_all() {
-    println!("        whole replay                                      engine alone");
+    println!("        whole replay                                      engine alone                  with reasons");
     println!(
-        "  bytes   ns/event ns/event 2   MB/s text MB/s text 2  ratio   ns/event ns/event 2  ratio"
+        "  bytes   ns/event ns/event 2   MB/s text MB/s text 2  ratio   ns/event ns/event 2  ratio   ns/event ns/event 2  ratio"
     );
     SIZES.into_iter().for_each(measure);
 }

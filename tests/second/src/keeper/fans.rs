@@ -53,19 +53,24 @@ impl Keeper {
         if !self.bit(CONFIG_1, 7) {
             return 16 * self.min_code(fan);
         }
-        let assigned: &[usize] = match (self.regs[CONFIG_1] >> 5) & 3 {
+        let assigned = self.assigned(fan);
+        let demands = assigned.iter().map(|&channel| self.demand(channel, fan));
+        demands.max().unwrap_or(0)
+    }
+
+    // duty 3: bits 6:5 of 0x00
+    pub fn assigned(&self, fan: usize) -> &'static [usize] {
+        match (self.regs[CONFIG_1] >> 5) & 3 {
             0 if fan == 0 => &[1],
             0 => &[2],
             1 => &[1],
             2 => &[2],
             _ => &[0, 1, 2],
-        };
-        let demands = assigned.iter().map(|&channel| self.demand(channel, fan));
-        demands.max().unwrap_or(0)
+        }
     }
 
     // duty 2
-    pub(super) fn demand(&self, channel: usize, fan: usize) -> i32 {
+    pub fn demand(&self, channel: usize, fan: usize) -> i32 {
         if !self.run_flag[channel] {
             return 0;
         }

@@ -65,7 +65,7 @@ impl Keeper {
     }
 
     // Table 26, bits 0 and 1
-    pub(super) fn filtered(&self, fan: usize) -> bool {
+    pub fn filtered(&self, fan: usize) -> bool {
         self.bit(FILTER, fan)
     }
 
@@ -95,7 +95,7 @@ impl Keeper {
     }
 
     // the stored reading in eighths: temperatures 1 read backwards
-    pub(super) fn reading(&self, channel: usize) -> i32 {
+    pub fn reading(&self, channel: usize) -> i32 {
         let extended = self.regs[EXTENDED];
         let remainder = match channel {
             0 => 2 * (extended >> 6),

@@ -84,6 +84,6 @@ fn bit_value(number: i32) -> bool {
 }
 
 // reply 3
-fn fan_exists(who: i32) -> bool {
+pub(super) fn fan_exists(who: i32) -> bool {
     who == 1 || who == 2
 }
