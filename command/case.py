@@ -5,13 +5,14 @@ from command.lines import fault_at
 from command.report import TOO_LONG, check_pair, report_of
 from command.trace import LONGEST, events_of
 
-# name: of the trace, None for standard input; shown: what the report says after each event; ending: why it ends too early, or None
-Case = collections.namedtuple("Case", "name events report shown ending")
+# name: of the trace, None for standard input; text: its bytes; shown: what the report says after each event; ending: why it ends
+# too early, or None
+Case = collections.namedtuple("Case", "name text events report shown ending")
 
 
 def case_of(name, text, report):
     if report == TOO_LONG:
-        return Case(name, [], report, [], f"the trace is longer than {LONGEST:,} bytes, and nothing of it was run")
+        return Case(name, text, [], report, [], f"the trace is longer than {LONGEST:,} bytes, and nothing of it was run")
     (events, wrong), (shown, told) = events_of(text), report_of(report)
     check_pair(events, wrong, shown, told)
-    return Case(name, events, report, shown, f"line {wrong}: {fault_at(text, wrong)}" if wrong else None)
+    return Case(name, text, events, report, shown, f"line {wrong}: {fault_at(text, wrong)}" if wrong else None)

@@ -5,6 +5,7 @@ import importlib
 import os
 
 from command import program, trace
+from command.build import ROOT
 from command.case import case_of
 from command.output import say, write
 from command.status import DONE, MALFORMED, MEANINGS, USE, Failure
@@ -13,14 +14,15 @@ from command.status import DONE, MALFORMED, MEANINGS, USE, Failure
 # of its own, and notes(case), lines for standard error.
 COMMANDS = {
     "replay": "the program's report as it is; refused events in words on standard error",
-    "table": "one row an event, in words; --csv for a spreadsheet",
-    "chart": "a picture in SVG: temperatures and limits, duties, lines, spin-ups, status reads",
+    "table": "one row an event, in words, with the reasons for the duties; --csv for a spreadsheet",
+    "chart": "a picture in SVG: temperatures and limits, duties and the reasons for them, lines, spin-ups, status reads",
+    "why": "why each fan runs as it does after the last event: the program's words, and a sentence to read out",
 }
 INTERRUPTED = 130
 
 HELP = """Usage: ./keeper COMMAND [FILE]
 Runs a trace of events through the proved fan keeper. FILE is a trace; without one, or with -, it is on standard input.
-The program is proved and built first where that is due: some 4 minutes the first time.
+The programs are proved and built first where that is due: some 4 minutes the first time.
 
 Commands:
 {commands}
@@ -77,7 +79,7 @@ def run(words):
     if not words:
         raise Failure(USE, "name a command; ./keeper --help says which there are")
     if words[0] in ("-h", "--help", "--version"):
-        write((program.ROOT / "VERSION").read_bytes() if words[0] == "--version" else help_text().encode())
+        write((ROOT / "VERSION").read_bytes() if words[0] == "--version" else help_text().encode())
         return DONE
     command = command_named(words[0])
     parser = parser_of(words[0], command)

@@ -3,16 +3,18 @@ import csv
 import io
 
 from command.history import follow
-from command.report import FULL, Shown
+from command.reasons import Reason, after_each
+from command.report import FULL, LINES, Shown
 from command.trace import Event
-from command.words import event_words, reply_words
+from command.words import event_words, percent, reply_words
 
-WIDTH = 120
-HEAD = ("event", "what happens", "answer", "data", "INT", "THERM", "FAN_FAULT", "duty 1", "duty 2")
-GAPS = (0, 2, 2, 2, 1, 1, 1, 2, 2)  # before each column
+WIDTH, ROOM = 120, 47  # of a row, where its words have room in it; that which the longest words of an event need
+HEAD = ("event", "what happens", "answer", "lines", "duty 1", "reason 1", "duty 2", "reason 2")
+GAPS = (0, 2, 2, 2, 2, 1, 2, 1)  # before each column
 RIGHT = (0,)  # columns whose words stand at the right
 WORDS = 1  # the column that gets the room which the others leave
-CSV_HEAD = ("event", *Event._fields, "words", *Shown._fields[:1], "reply", *Shown._fields[1:], "data hex", "percent1", "percent2")
+MORE = ("data hex", "percent1", "percent2", "reason1", "reason2")  # columns of the CSV behind those of the report
+CSV_HEAD = ("event", *Event._fields, "words", *Shown._fields[:1], "reply", *Shown._fields[1:], *MORE)
 
 
 def options(parser):
@@ -24,32 +26,47 @@ def output(case, options):
 
 
 def told(case):
-    """Number, event, what was shown, and the chip after it."""
-    return zip(range(1, len(case.events) + 1), case.events, case.shown, follow(case))
-
-
-def data_words(event, shown):
-    return f"0x{shown.data:02X}" if event.kind == "read" and not shown.answer else ""
+    """Number, event, what was shown, the chip after it, and the reasons for its duties."""
+    return list(zip(range(1, len(case.events) + 1), case.events, case.shown, follow(case), after_each(case)))
 
 
 def duty_words(duty):
-    return f"{duty:3} {(100 * duty + FULL // 2) // FULL:3}%"
+    return f"{duty:3} {percent(duty):3}%"
 
 
-def row(number, event, shown):
-    """A row but for the event's words, which depend on the room; a line that is not asserted is a dot."""
-    lines = [name if asserted else "." for name, asserted in zip(HEAD[4:7], (shown.int, shown.therm, shown.fault))]
-    duties = [duty_words(duty) for duty in (shown.duty1, shown.duty2)]
-    return [str(number), "", reply_words(event, shown), data_words(event, shown), *lines, *duties]
+def lines_words(shown, known):
+    """Of the lines that are asserted at some event, each by name where it is asserted now, else a dot."""
+    words = (LINES[field] if getattr(shown, field) else ".".ljust(len(LINES[field])) for field in known)
+    return " ".join(words).rstrip() or "."
+
+
+def short(reason):
+    """The program's words; on the ramp the way and the target alone, for the duty stands beside it."""
+    return f"{reason.ramp()[1]} {reason.ramp()[2]}" if reason.what == "ramp" else reason.words()
+
+
+def rows_of(all_told, reason_words):
+    """The rows but for the events' words, which depend on the room; no reason, before power, is a dot."""
+    known = [field for field in LINES if any(getattr(shown, field) for _, _, shown, _, _ in all_told)]
+    for number, event, shown, _, reasons in all_told:
+        one, two = map(reason_words, reasons) if reasons else ".."
+        duties = (duty_words(shown.duty1), one, duty_words(shown.duty2), two)
+        yield [str(number), "", reply_words(event, shown), lines_words(shown, known), *duties]
 
 
 def table_of(case):
-    all_told = list(told(case))
-    rows = [list(HEAD), *(row(number, event, shown) for number, event, shown, _ in all_told)]
-    widths = [max(map(len, column)) for column in zip(*rows)]
-    others = sum(widths) - widths[WORDS] + sum(GAPS)
-    for cells, (_, event, shown, chip) in zip(rows[1:], all_told):
-        cells[WORDS] = event_words(event, shown, chip, WIDTH - others)
+    """With the channels' names in the reasons where they have room, else short; every event in words, or by its numbers where it has none."""
+    all_told = told(case)
+    wanted = max((len(event_words(event, shown, chip, ROOM)) for _, event, shown, chip, _ in all_told), default=0)
+    for reason_words in (Reason.named, short):
+        rows = [list(HEAD), *rows_of(all_told, reason_words)]
+        widths = [max(map(len, column)) for column in zip(*rows)]
+        room = WIDTH - sum(GAPS) - sum(widths) + widths[WORDS]
+        if wanted <= room:
+            break
+    room = max(wanted, room)
+    for cells, (_, event, shown, chip, _) in zip(rows[1:], all_told):
+        cells[WORDS] = event_words(event, shown, chip, room)
     widths[WORDS] = max(len(cells[WORDS]) for cells in rows)
     return "".join(line_of(cells, widths) for cells in rows)
 
@@ -60,12 +77,14 @@ def line_of(cells, widths):
 
 
 def csv_of(case):
-    """RFC 4180, in ASCII alone, since a spreadsheet may take the text for any encoding."""
+    """RFC 4180, in ASCII alone, since a spreadsheet may take the text for any encoding; reasons in the program's words."""
     text = io.StringIO()
     writer = csv.writer(text, lineterminator="\r\n")
     writer.writerow(CSV_HEAD)
-    for number, event, shown, chip in told(case):
+    for number, event, shown, chip, reasons in told(case):
         words = event_words(event, shown, chip).replace("°C", "C")
+        data = f"0x{shown.data:02X}" if event.kind == "read" and not shown.answer else ""
         percents = [f"{100 * duty / FULL:.4g}" for duty in (shown.duty1, shown.duty2)]
-        writer.writerow([number, *event, words, shown.answer, reply_words(event, shown), *shown[1:], data_words(event, shown), *percents])
+        because = [reason.words() for reason in reasons] if reasons else ["", ""]
+        writer.writerow([number, *event, words, shown.answer, reply_words(event, shown), *shown[1:], data, *percents, *because])
     return text.getvalue()

@@ -1,6 +1,7 @@
 """Events and answers in the words of the trade."""
 from command.history import Mark
 from command.registers import CHANNELS, LIMITS, OFFSETS, REGISTERS, degrees, offset_degrees
+from command.report import FULL
 from command.trace import in_range
 
 NOT_OURS = 2  # the reply to a bus event or an alert for another address
@@ -22,6 +23,10 @@ def reply_words(event, shown):
     if shown.answer == 3:
         return "no such channel" if event.kind == "sample" else "no such fan"
     return REPLIES[shown.answer]
+
+
+def percent(slots):
+    return (100 * slots + FULL // 2) // FULL
 
 
 def celsius(number):

@@ -1,4 +1,5 @@
-/* A keeper in a C program: power on, watch the local channel, heat it past its THERM limit of 70 degrees, read the status.
+/* A keeper in a C program: power on, watch the local channel, heat it past its THERM limit of 70 degrees, read the status; why
+   the fans run as they do after each event.
    Then three keepers on one alert line, two of which pull it: who answers, until nobody does. */
 #include <stdio.h>
 
@@ -23,12 +24,14 @@ int main(void) {
         {READ, 44, 0, 0},      {READ, 44, 0, 0},        {SAMPLE, 0, 0, 8 * 65}, {SAMPLE, 0, 0, 8 * 64},
     };
     uint8_t outcomes[sizeof events / sizeof *events][7];
+    uint8_t reasons[sizeof events / sizeof *events][2][4];
     size_t end = snezhulka_steps(*events, sizeof events / sizeof **events, *outcomes, sizeof outcomes);
-    if (end == SNEZHULKA_WRONG_SIZE)
+    size_t told = snezhulka_reasons(*events, sizeof events / sizeof **events, **reasons, sizeof reasons);
+    if (end == SNEZHULKA_WRONG_SIZE || told == SNEZHULKA_WRONG_SIZE)
         return 1;
     for (size_t i = 0; i < end / 7; i++)
-        printf("answer %d data %d therm %d duties %d %d\n", outcomes[i][0], outcomes[i][1], outcomes[i][3], outcomes[i][5],
-               outcomes[i][6]);
+        printf("answer %d data %d therm %d duties %d %d because %d %d\n", outcomes[i][0], outcomes[i][1], outcomes[i][3],
+               outcomes[i][5], outcomes[i][6], reasons[i][0][0], reasons[i][1][0]);
     struct snezhulka_alert_entry row[] = {{46, true}, {44, false}, {45, true}};
     while (ask(row, sizeof row / sizeof *row) == 0) {
         /* here the keeper that answered is given the event alert */

@@ -1,12 +1,16 @@
 """A copy of ./keeper in a tree of its own, so that no test proves anything or touches what is built here."""
+import concurrent.futures
+import functools
 import os
 import pathlib
+import re
 import shutil
 import subprocess
 import sys
 
 ROOT = pathlib.Path(__file__).resolve().parent.parent
-PROGRAM = ROOT / "target" / "bin" / "replay"
+PROGRAMS = ("replay", "why")
+PROGRAM, WHY = (ROOT / "target" / "bin" / name for name in PROGRAMS)
 TOOLS = "cat cp dirname mkdir readlink sh".split()
 SECONDS = 60  # more than any use takes
 
@@ -30,7 +34,7 @@ class Findings:
 
 
 class Tree:
-    """The command with the built program, or a stand-in for it; the folder of tools has no rt until one is put there."""
+    """The command with the built programs, or stand-ins for them; the folder of tools has no rt until one is put there."""
 
     def __init__(self, room):
         self.folder, self.tools = room / "tree", room / "tools"
@@ -42,23 +46,25 @@ class Tree:
         shutil.copytree(ROOT / "command", self.folder / "command", ignore=shutil.ignore_patterns("__pycache__"))
         for name in ("keeper", "VERSION"):
             shutil.copy(ROOT / name, self.folder)
-        self.program = self.folder / "target" / "bin" / "replay"
+        self.programs = {name: self.folder / "target" / "bin" / name for name in PROGRAMS}
         self.restore()
 
     def restore(self):
-        """The program as it was built, newer than the crates of the tree."""
-        shutil.copy(PROGRAM, self.program)
+        """The programs as they were built, newer than the crates of the tree."""
+        for built, program in zip((PROGRAM, WHY), self.programs.values()):
+            program.unlink(missing_ok=True)
+            shutil.copy(built, program)
 
-    def stand_in(self, script):
-        """A shell script in place of the program; it gets the trace on standard input."""
-        self.program.unlink(missing_ok=True)
-        self.program.write_text(f"#!/bin/sh\n{script}\n")
-        self.program.chmod(0o755)
+    def stand_in(self, script, name="replay"):
+        """A shell script in place of a program; it gets the trace on standard input."""
+        self.programs[name].unlink(missing_ok=True)
+        self.programs[name].write_text(f"#!/bin/sh\n{script}\n")
+        self.programs[name].chmod(0o755)
 
-    def reports(self, report):
+    def says(self, printed, name="replay"):
         """A stand-in that says this of every trace."""
-        (self.folder / "report").write_bytes(report)
-        self.stand_in(f"exec {self.tools / 'cat'} '{self.folder / 'report'}'")
+        (self.folder / f"{name}.says").write_bytes(printed)
+        self.stand_in(f"exec {self.tools / 'cat'} '{self.folder / name}.says'", name)
 
     def toolchain(self, script):
         (self.tools / "rt").unlink(missing_ok=True)
@@ -75,10 +81,26 @@ class Tree:
 
 
 def need_program():
-    if not PROGRAM.exists():
-        sys.exit("target/bin/replay is missing; rt check replay builds it")
+    for name in PROGRAMS:
+        if not (ROOT / "target" / "bin" / name).exists():
+            sys.exit(f"target/bin/{name} is missing; rt check {name} builds it")
     if not os.access(ROOT / "keeper", os.X_OK):
         sys.exit("keeper is missing, or cannot be run")
+
+
+def why_of(text):
+    """Both reasons that the program `why` prints of a text, or what it prints where these are not all of it."""
+    printed = subprocess.run([WHY], input=text, capture_output=True).stdout.decode("latin-1")
+    found = re.fullmatch("reason1=(.*)\nreason2=(.*)\n", printed)
+    return found.groups() if found else printed
+
+
+@functools.cache
+def reasons_of(text, count):
+    """That of the text up to the end of each of so many events."""
+    ends = [found.end() for found in re.finditer(rb"(?:[^\n]*\n){4}", text)][:count]
+    with concurrent.futures.ThreadPoolExecutor(4) as pool:
+        return list(pool.map(lambda end: why_of(text[:end]), ends))
 
 
 def reading_of(channel, sample, byte):

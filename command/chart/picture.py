@@ -4,10 +4,12 @@ import re
 import textwrap
 
 from command.chart.curves import Panel, curves, ground
+from command.chart.reasons import reason_strips
 from command.chart.rows import axis, line_bands, mark_rows, spin_bands
 from command.chart.svg import HEADING, LEFT, STYLE, WIDTH, Plot, path, short, words_at
 from command.chart.temperatures import temperatures
 from command.history import follow
+from command.reasons import after_each
 from command.registers import CHANNELS
 from command.report import FULL
 
@@ -24,7 +26,7 @@ def duties(plot, top, shown):
     panel = Panel(top + HEADING, DUTIES_TALL, 0, FULL, FULL // 4)
     lines = [(f"duty fan{fan}", f"fan {fan}", [getattr(after, f"duty{fan}") for after in shown], duty_words) for fan in (1, 2)]
     elements = [words_at(LEFT, top, f"Duties in slots of {FULL}", "heading"), *ground("duties", panel), *curves(plot, panel, lines)]
-    return elements, panel.bottom
+    return elements, [(panel.top, panel.bottom)], panel.bottom
 
 
 def guides(plot, chips, bodies):
@@ -36,13 +38,14 @@ def guides(plot, chips, bodies):
 
 
 def drawn(case, chips):
-    """The elements of the panels and rows, and where they end."""
+    """The elements of the panels and rows, and where they end. A part gives its elements, the places in it that guides go through, its end."""
     plot, elements, bodies, y = Plot(len(chips)), [], [], TOP
-    parts = ((temperatures, chips), (duties, case.shown), (line_bands, case.shown, chips), (spin_bands, chips), (mark_rows, chips))
+    parts = [(temperatures, chips), (duties, case.shown), (reason_strips, after_each(case))]
+    parts += [(line_bands, case.shown, chips), (spin_bands, chips), (mark_rows, chips)]
     for part, *given in parts:
-        more, bottom = part(plot, y, *given)
-        elements, bodies, y = elements + more, bodies + [(y + HEADING, bottom)], bottom + GAP
-    elements += guides(plot, chips, bodies[:-1])
+        more, through, bottom = part(plot, y, *given)
+        elements, bodies, y = elements + more, bodies + through, bottom + GAP
+    elements += guides(plot, chips, bodies)
     more, y = axis(plot, y - GAP + 4, chips)
     return elements + more, y
 

@@ -4,11 +4,11 @@ import collections
 from command.chart.curves import apart, rounded_out
 from command.chart.svg import HEADING, LEFT, RIGHT, SIGN, panel_at, path, short, turned_at, words_at
 from command.registers import STATUS
+from command.report import LINES
 
 ROW, BAND = 18, 14
 NARROW, MOST_MOVED = 10, 24  # between the middles of two turned words; how far a word may stand from its mark
 CROSSES = {"failed": 5, "over": 3}  # half the width of each
-LINES = {"int": "INT", "therm": "THERM", "fault": "FAN_FAULT"}
 Marked = collections.namedtuple("Marked", "number word first", defaults=("", False))  # first: its word goes before the others
 
 
@@ -25,7 +25,8 @@ def line_bands(plot, top, shown, chips):
     rows.append(("pin", "pin low, outside", [int(chip.pin_low) for chip in chips]))
     for place, (style, name, values) in enumerate(rows):
         elements += band(plot, top + HEADING + ROW * place, style, name, values)
-    return elements, top + HEADING + ROW * len(rows)
+    bottom = top + HEADING + ROW * len(rows)
+    return elements, [(top + HEADING, bottom)], bottom
 
 
 def crosses(plot, middle, chips, what, fan, size):
@@ -43,7 +44,8 @@ def spin_bands(plot, top, chips):
         elements += band(plot, row, f"spin{fan + 1}", f"fan {fan + 1} spin-up", [int(chip.spins[fan] > 0) for chip in chips])
         for what, size in CROSSES.items():
             elements.append(path(f"{what} of{fan + 1}", crosses(plot, row + BAND / 2, chips, what, fan, size)))
-    return elements, top + HEADING + ROW * 2
+    bottom = top + HEADING + ROW * 2
+    return elements, [(top + HEADING, bottom)], bottom
 
 
 def placed(wanted, gap):
@@ -93,7 +95,7 @@ def mark_rows(plot, top, chips):
     for style, name, marked in rows:
         row, tall = mark_row(plot, top, style, name, marked)
         elements, top = elements + row, top + tall
-    return elements, top
+    return elements, [], top
 
 
 def axis(plot, top, chips):

@@ -10,7 +10,7 @@ STYLE = """
 text { font: 12px system-ui, -apple-system, "Segoe UI", Roboto, "DejaVu Sans", Arial, sans-serif; fill: #222 }
 .title { font-size: 18px; font-weight: bold } .heading { font-weight: bold } .legend { font-weight: normal; font-size: 11px; fill: #555 }
 .end { text-anchor: end } .middle { text-anchor: middle }
-.byte { font-size: 10px; text-anchor: middle } .turned { font-size: 10px; text-anchor: end }
+.byte, .piece { font-size: 10px; text-anchor: middle } .turned { font-size: 10px; text-anchor: end }
 .paper { fill: #fff } .panel { fill: #f3f3f3 } path { fill: none; stroke: #222; stroke-width: 1.2 } .grid { stroke: #d5d5d5 }
 .guide { stroke: #999; stroke-dasharray: 1 3 } .leader { stroke: #999; stroke-width: 1 } .reading, .duty { stroke-width: 2.2 }
 .local { stroke: #0072b2 } .remote1 { stroke: #d55e00; stroke-dasharray: 12 3 } .remote2 { stroke: #009e73; stroke-dasharray: 2.5 2.5 }
@@ -18,7 +18,9 @@ text { font: 12px system-ui, -apple-system, "Segoe UI", Roboto, "DejaVu Sans", A
 .hold { stroke: none; fill: #0072b2; fill-opacity: 0.16 } .hold.remote1 { fill: #d55e00 } .hold.remote2 { fill: #009e73 }
 .set { stroke: none; fill: #0072b2 } .set.remote1 { fill: #d55e00 } .set.remote2 { fill: #009e73 }
 .fan2 { stroke: #aa4499; stroke-dasharray: 7 4 }
-.band { stroke: #444; stroke-width: 14 } .pin { stroke: #b8860b } .spin1, .spin2 { stroke: #bbb } .failed { stroke-width: 2.4 }
+.band, .because { stroke: #444; stroke-width: 14 } .pin { stroke: #b8860b } .spin1, .spin2, .spin { stroke: #bbb } .failed { stroke-width: 2.4 }
+.because.demand { stroke-width: 7 } .because.ramp { stroke: none; fill: #777 } .because.manual, .because.zero, .because.disabled { stroke-width: 3 }
+.because.disabled { stroke-dasharray: 2 2 } .because.local { stroke: #0072b2 } .because.remote1 { stroke: #d55e00 } .because.remote2 { stroke: #009e73 }
 """
 
 
@@ -67,8 +69,10 @@ def turned_at(x, y, words):
     return f'<text class="turned" x="{short(x)}" y="{short(y)}" transform="rotate(-90 {short(x)} {short(y)})">{html.escape(words)}</text>'
 
 
-def path(style, data):
-    return f'<path class="{style}" d="{data}"/>' if data else ""
+def path(style, data, hint=""):
+    """The hint is shown where a reader points at it."""
+    end = f"><title>{html.escape(hint)}</title></path>" if hint else "/>"
+    return f'<path class="{style}" d="{data}"{end}' if data else ""
 
 
 def panel_at(style, top, bottom):

@@ -79,7 +79,7 @@ def legend(lines, chips):
 
 
 def temperatures(plot, top, chips):
-    """The elements, and where they end."""
+    """The elements, the panel's place, and where they end."""
     lines = list(lines_of(chips))
     seen = {value for _, _, values, _ in lines for value in values} - {None}
     # a quarter of a degree more on each side keeps the lines off the edges
@@ -89,4 +89,4 @@ def temperatures(plot, top, chips):
     elements += curves(plot, panel, lines)
     for channel, style in enumerate(STYLES):
         elements += [path(f"set {style} {what}bit", "".join(triangles(plot, panel, chips, what, channel))) for what in LIMITS]
-    return elements, panel.bottom
+    return elements, [(panel.top, panel.bottom)], panel.bottom

@@ -1,0 +1,103 @@
+"""The reasons for the duties, as the program `why` gives them after an event; nothing of them is worked out here."""
+import collections
+import itertools
+import operator
+
+from command.program import reasons_of
+from command.registers import CHANNELS
+from command.report import FULL, TOO_LONG
+from command.status import BUILD, Failure
+from command.trace import Event
+
+CHANNEL, CLOCKS, SLOTS = (tuple(map(str, numbers)) for numbers in (range(3), range(1, 81), range(1, FULL + 1)))
+FORMS = {  # the first word, and which words stand behind it
+    "disabled": (),
+    "pin": (),
+    "therm": (CHANNEL,),
+    "zero": (),
+    "spin": (CLOCKS,),
+    "ramp": (SLOTS, ("up", "down"), SLOTS),
+    "manual": (),
+    "demand": (CHANNEL,),
+}
+STANDS, RUNS_FULL, OF_CHANNEL = ("disabled", "zero"), ("pin", "therm", "spin"), ("therm", "demand")
+FANS = (1, 2)
+NO_POWER, WRONG_LINE, LONG = 1, 10, 11  # refusals
+
+
+class Reason(collections.namedtuple("Reason", "what more")):
+    """The program's words: the first, and those behind it."""
+
+    def words(self):
+        return " ".join((self.what, *self.more))
+
+    def channel(self):
+        return int(self.more[0]) if self.what in OF_CHANNEL else None
+
+    def ramp(self):
+        """Slots left, the way, and the target."""
+        left, way, target = self.more
+        return int(left), way, int(target)
+
+    def duty(self):
+        """The duty in force, where the words alone tell it."""
+        if self.what == "ramp":
+            left, way, target = self.ramp()
+            return target - left if way == "up" else target + left
+        return 0 if self.what in STANDS else FULL if self.what in RUNS_FULL else None
+
+    def named(self):
+        """With the channel's name in place of its number."""
+        return f"{self.what} {CHANNELS[self.channel()]}" if self.what in OF_CHANNEL else self.words()
+
+
+def reason_of(fan, line):
+    """What a line says of a fan, or None where it is no such line."""
+    name, _, words = line.partition("=")
+    what, *more = words.split(" ")
+    forms = FORMS.get(what)
+    right = name == f"reason{fan}" and forms is not None and len(forms) == len(more) and all(map(tuple.__contains__, forms, more))
+    return Reason(what, tuple(more)) if right else None
+
+
+def told(printed, refusal, shown):
+    """The reasons of both fans in what was printed, or None where a refusal is due, which is then all of it."""
+    if refusal:
+        found, right = None, printed == b"answer=%d\n" % refusal
+    else:
+        *lines, unended = printed.decode("latin-1").split("\n")
+        found = [reason_of(fan, line) for fan, line in zip(FANS, lines)]
+        right = len(lines) == len(FANS) and not unended and None not in found
+        right = right and all(reason.duty() in (None, duty) for reason, duty in zip(found, shown[-2:]))
+    if not right:
+        raise Failure(BUILD, f"the program's reasons are not of this trace: it prints {printed[:80]!r}")
+    return found
+
+
+def cuts(case):
+    """The trace's text up to the end of each event."""
+    text, size = memoryview(case.text), len(Event._fields)
+    ends = itertools.accumulate(len(line) + 1 for line in case.text.split(b"\n"))
+    return [text[:end] for end in itertools.islice(ends, size - 1, size * len(case.events), size)]
+
+
+def powered(case):
+    """Whether a power was accepted, up to each event."""
+    powers = (event.kind == "power" and not shown.answer for event, shown in zip(case.events, case.shown))
+    return list(itertools.accumulate(powers, operator.or_))
+
+
+def after_each(case):
+    """The reasons of both fans after each event, None before the first accepted power."""
+    rows = zip(reasons_of(cuts(case)), powered(case), case.shown)
+    return [told(printed, 0 if power else NO_POWER, shown) for printed, power, shown in rows]
+
+
+def after_last(case):
+    """What the program prints of the whole text, and the reasons of both fans in it, None where it is refused."""
+    (printed,) = reasons_of([case.text])
+    if case.ending:
+        refusal = LONG if case.report == TOO_LONG else WRONG_LINE
+    else:
+        refusal = 0 if any(powered(case)) else NO_POWER
+    return printed, told(printed, refusal, case.shown[-1] if case.shown else None)
