@@ -1,3 +1,4 @@
 pub mod WordLaws
 pub mod Laws
 pub mod LengthLaws
+pub mod ExplainsLaws

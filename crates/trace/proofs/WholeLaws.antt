@@ -8,15 +8,12 @@ use native.Mathlib.Nat.{sub-zero}
 use lib.Dec.{leb}
 use lib.ListN.{length, take, length-append}
 use lib.Seq.{take-add, take-all}
-use mir.Syntax.{w32}
-use mir.Val.{SFits}
 use borrow.Author.Tests.{le-leb, lt-leb, leb-true}
 use Rattle.event.specs.declared.Event.{Event}
-use Rattle.event.specs.Kinds.{numbersOf}
 use Rattle.trace.specs.declared.Reading.{Reading}
 use Rattle.trace.specs.declared.Reading.the-variants as reading
 use Rattle.trace.specs.Trace.{eventAt, eventText}
-use Rattle.trace.specs.Whole.{Events, WrongLine, wholeBy, eventsFrom, eventsOf, wholeTextOf}
+use Rattle.trace.specs.Whole.{Events, WrongLine, wholeBy, eventsFrom, eventsOf, wholeTextOf, Written}
 use Rattle.trace.proofs.Onward.{onward, event-long}
 use Rattle.trace.proofs.RoundTrip.{round-trip}
 use Rattle.trace.proofs.Canonical.{canonical}
@@ -60,11 +57,6 @@ module _ (s : List ℕ) (at : ℕ) (h : List Event) (l : at < length s) {r : Rea
       one ∙ rw x (whole-fuel (length s - at - 1) (length s - next) s next (e ∷ h) (omega arith) (omega arith))
 
 -- ---- what was written of events reads back as them
-
--- their numbers have 32 bits
-abbrev pub Written : List Event → Type 0
-Written [] = Unit {0}
-Written (e ∷ h) = SFits w32 (numbersOf e .who) × SFits w32 (numbersOf e .arg) × SFits w32 (numbersOf e .val) × Written h
 
 -- in a text that begins with theirs
 begins : (h : List Event) → Written h → (after s : List ℕ) → s ≡ wholeTextOf h ++ after

@@ -4,6 +4,9 @@ use mathlib.Core.List.{List, [], _∷_, _++_}
 use mathlib.Core.Bool.{cond}
 use lib.Dec.{leb}
 use lib.ListN.{length}
+use mir.Syntax.{w32}
+use mir.Val.{SFits}
+use Rattle.event.specs.Kinds.{numbersOf}
 use Rattle.event.specs.declared.Event.{Event}
 use Rattle.trace.specs.Trace.{eventAt, eventText}
 use Rattle.trace.specs.declared.Reading.{Reading}
@@ -32,3 +35,8 @@ unfoldable pub wholeTextOf : List Event → List ℕ
 unfolding eventText
 wholeTextOf [] = []
 wholeTextOf (e ∷ h) = wholeTextOf h ++ eventText e
+
+-- the numbers of the events have 32 bits, as those that are read
+abbrev pub Written : List Event → Type 0
+Written [] = Unit {0}
+Written (e ∷ h) = SFits w32 (numbersOf e .who) × SFits w32 (numbersOf e .arg) × SFits w32 (numbersOf e .val) × Written h

@@ -1,0 +1,34 @@
+-- What the program `why` prints, a second time: of a text by what it was written of, in bytes, and in the page's words of what is told.
+use Prim.Native.Nat.{ℕ, _<_, _≤_}
+use mathlib.Core.Path.{_≡_}
+use mathlib.Core.Bool.{false}
+use mathlib.Core.List.{List, [], _∷_, _++_}
+use lib.ListN.{length}
+use Rattle.part.specs.declared.FanId.the-variants.{One, Two}
+use Rattle.event.specs.declared.Reason.{Reason}
+use Rattle.event.specs.declared.Why.the-variants.{Because}
+use Rattle.rules.specs.Replies.{History}
+use Rattle.rules.specs.PageReplies.{powerOn}
+use Rattle.rules.specs.PageReasons.{toldOf}
+use Rattle.trace.specs.Whole.{Written, wholeTextOf}
+use Rattle.explainer.specs.Words.{reasonLine}
+use Rattle.explainer.specs.Explained.{explained}
+
+-- the text is that of the events, the newest first, and short enough to be judged
+pub record TraceOf (h : History) (text : List ℕ) : Type 0 where
+  pub short : length text ≤ 65536
+  pub numbers : Written h
+  pub whole : text ≡ wholeTextOf h
+
+pub record Explains (text : List ℕ) : Type 0 where
+  -- answer=11: more than 65,536 bytes, whatever they are
+  pub long : 65536 < length text → explained text ≡ 97 ∷ 110 ∷ 115 ∷ 119 ∷ 101 ∷ 114 ∷ 61 ∷ 49 ∷ 49 ∷ 10 ∷ []
+  -- answer=10: the text of no list of events
+  pub wrong :
+      length text ≤ 65536 → ((h : History) → text ≡ wholeTextOf h → ⊥) → explained text ≡ 97 ∷ 110 ∷ 115 ∷ 119 ∷ 101 ∷ 114 ∷ 61 ∷ 49 ∷ 48 ∷ 10 ∷ []
+  -- answer=1: events that bring no power
+  pub off : (h : History) → TraceOf h text → powerOn h ≡ false → explained text ≡ 97 ∷ 110 ∷ 115 ∷ 119 ∷ 101 ∷ 114 ∷ 61 ∷ 49 ∷ 10 ∷ []
+  -- else a line for each fan, with what is told of it after the last event
+  pub lines :
+      (h : History) (one two : Reason) → TraceOf h text → toldOf One h ≡ Because one → toldOf Two h ≡ Because two →
+      explained text ≡ reasonLine One one ++ reasonLine Two two
