@@ -25,8 +25,8 @@ use Rattle.rules.specs.PageReasons.{inOrder, Away, Fact}
 use Rattle.rules.proofs.FanWordsLaws.{output-is, filter-is}
 use Rattle.rules.proofs.PageDutiesLaws.{page-duties}
 use Rattle.rules.proofs.ReasonLaws.{firstOf, first-le, lowest-holds, lowest-first, some-holds, same-channel}
-use Rattle.rules.proofs.ReasonPlaceLaws.{ramp-away, one-ramp, differs, tests, asks, hot, last, at-place, by-place, order-is, fan-bit, mode-bit, shown-duty}
-use Rattle.rules.proofs.ReasonPlaceLaws.{on, up-then, automatic-then, asks-by, some-asks, is-assigned, is-demanded}
+use Rattle.rules.proofs.ReasonPlaceLaws.{ramp-away, one-ramp, differs, tests, asks, hot, last, at-place, by-place, order-is}
+use Rattle.rules.proofs.ReasonPlaceLaws.{fan-bit, mode-bit, shown-duty, on, up-then, automatic-then, asks-by, some-asks, is-assigned, is-demanded}
 
 module _ (h : History) (f : FanId) where
   abbrev d : Taken
