@@ -3,6 +3,7 @@ use Prim.Native.Nat.{ℕ}
 use mathlib.Core.Bool.{Bool, true, false, cond, not, _&&_, _||_}
 use mathlib.Core.Path.{_≡_, refl, sym, _∙_}
 use borrow.Author.Tests.{not-true}
+use lib.Dec.{eqb}
 use Rattle.integer.proofs.BoolLaws.{both, neither}
 use Rattle.part.specs.declared.ChannelId.{ChannelId}
 use Rattle.part.specs.declared.ChannelId.the-variants.{Local, Remote1, Remote2}
@@ -16,7 +17,7 @@ use Rattle.reading.specs.Limits.{latchedOf, runningOf, isHigh, isLow}
 use Rattle.reading.specs.Offset.{measuredOf}
 use Rattle.stored.specs.Stored.{channelRegistersOf}
 use Rattle.stored.specs.declared.ChannelRegisters.{ChannelRegisters}
-use Rattle.input.specs.Inputs.{isA, isSample, isRead, isRestart}
+use Rattle.input.specs.Inputs.{isA, isSample, isReport, isRead, isRestart}
 use Rattle.input.specs.declared.Input.{Input}
 use Rattle.stored.specs.declared.Context.{Context}
 use Rattle.channel.specs.Channels.{sampledIn, readingAfter, flagAtSample, latchAfter, flagAfter, channelOnIn, clearsBit, statusBitAfter}
@@ -49,9 +50,14 @@ module _ (c : ChannelId) (i : Input) (was : Bool) {p : Bool} (ep : p ≡ isA kin
   unfolding errorAfter
   error-powered t e = rw (sym ep ∙ t) e
 
-  pub error-kept : p ≡ false → was ≡ errorAfter c i was
-  unfolding errorAfter
-  error-kept t = rw (sym ep ∙ t)
+  module _ (np : p ≡ false) {r : Bool} (er : r ≡ isReport c i) where
+    pub error-reported : r ≡ true → eqb (i .val) 1 ≡ errorAfter c i was
+    unfolding errorAfter
+    error-reported t = rw (sym ep ∙ np, sym er ∙ t)
+
+    pub error-kept : r ≡ false → was ≡ errorAfter c i was
+    unfolding errorAfter
+    error-kept t = rw (sym ep ∙ np, sym er ∙ t)
 
 -- ---- an event that is none of the channel's
 
@@ -66,10 +72,11 @@ module _ (c : ChannelId) (m : Context) (was : Channel) where
   unfolding channelAfter readingAfter flagAtSample latchAfter flagAfter clearsBit statusBitAfter highBitAfter lowBitAfter thermBitAfter errorAfter
   kept-is {on = on} e t eo q =
       let i = m .input in
-      let a = neither (isRestart i) (isSample c i || isA kind.Read i) (not-true (isRestart i || (isSample c i || isA kind.Read i)) (sym e ∙ t)) in
-      let b = neither (isSample c i) (isA kind.Read i) (a .1) in
+      let a = neither (isRestart i) _ (not-true (isRestart i || (isSample c i || (isReport c i || isA kind.Read i))) (sym e ∙ t)) in
+      let b = neither (isSample c i) (isReport c i || isA kind.Read i) (a .1) in
+      let r = neither (isReport c i) (isA kind.Read i) (b .1) in
       let p = neither (isA kind.Power i) _ (a .0) in
-      q ∙ rw (a .0, b .0, b .1, p .0, sym eo, unmarked on (was .high), unmarked on (was .low), unmarked on (was .therm))
+      q ∙ rw (a .0, b .0, r .0, r .1, p .0, sym eo, unmarked on (was .high), unmarked on (was .low), unmarked on (was .therm))
 
   -- ---- from the parts
 
@@ -93,7 +100,9 @@ all-three m cs e1 e2 e3 = rw (e1, e2, e3)
 
 -- ---- an event that is none of any channel's
 
-module _ (m : Context) (restarts : isRestart (m .input) ≡ false) (samples : isA kind.Sample (m .input) ≡ false) (reads : readsStatus m ≡ false) where
+module _
+    (m : Context) (restarts : isRestart (m .input) ≡ false) (samples : isA kind.Sample (m .input) ≡ false) (reports : isA kind.Diode (m .input) ≡ false)
+    (reads : readsStatus m ≡ false) where
   unread : (f : FanId) → isRead (statusAt f) (m .pointer) (m .input) ≡ false
   unread One = neither (isRead (statusAt One) (m .pointer) (m .input)) _ reads .0
   unread Two = neither (isRead (statusAt One) (m .pointer) (m .input)) _ reads .1
@@ -102,15 +111,16 @@ module _ (m : Context) (restarts : isRestart (m .input) ≡ false) (samples : is
   unfolding channelAfter readingAfter flagAtSample latchAfter flagAfter clearsBit statusBitAfter highBitAfter lowBitAfter thermBitAfter errorAfter
   kept c was on =
       let p = neither (isA kind.Power (m .input)) _ restarts in
-      rw (restarts, samples, p .0, on, unread (limitBitsIn c), unread (thermBitIn c))
+      rw (restarts, samples, reports, p .0, on, unread (limitBitsIn c), unread (thermBitIn c))
 
 pub left-alone : (m : Context) (cs : Channels) {b : Bool} → b ≡ untouchedIn m → b ≡ true → cs ≡ channelsAfter m cs
 left-alone m cs e t =
     let i = m .input in
-    let h = both (not (isRestart i || (isA kind.Sample i || readsStatus m))) _ (sym e ∙ t) in
+    let h = both (not (isRestart i || (isA kind.Sample i || (isA kind.Diode i || readsStatus m)))) _ (sym e ∙ t) in
     let n = neither (isRestart i) _ (not-true _ (h .0)) in
-    let k = neither (isA kind.Sample i) (readsStatus m) (n .1) in
+    let k = neither (isA kind.Sample i) (isA kind.Diode i || readsStatus m) (n .1) in
+    let r = neither (isA kind.Diode i) (readsStatus m) (k .1) in
     let on = both (channelOnIn Local m) _ (h .1) in
     let on2 = both (channelOnIn Remote1 m) (channelOnIn Remote2 m) (on .1) in
-    let stays = kept m (n .0) (k .0) (k .1) in
+    let stays = kept m (n .0) (k .0) (r .0) (r .1) in
     all-three m cs (stays Local (cs .local) (on .0)) (stays Remote1 (cs .remote1) (on2 .0)) (stays Remote2 (cs .remote2) (on2 .1))

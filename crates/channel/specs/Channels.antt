@@ -1,4 +1,4 @@
--- Document 01, "Temperatures, latches and cards", rules 1 to 3, 5 and 7, and "Duty in slots", rule 1, with T-01 of 02: a channel after an event.
+-- Document 01, "Temperatures, latches and cards", rules 1 to 3, 5 and 7, and "Duty in slots", rule 1, with T-01 and T-05 of 02: a channel after an event.
 use Prim.Native.Nat.{ℕ}
 use mathlib.Core.Bool.{Bool, false, cond, not, _&&_, _||_}
 use lib.Dec.{eqb}
@@ -14,7 +14,7 @@ use Rattle.rules.specs.Targets.{tminOf}
 use Rattle.reading.specs.Limits.{latchedOf, runningOf, isHigh, isLow}
 use Rattle.reading.specs.Offset.{measuredOf}
 use Rattle.input.specs.declared.Input.{Input}
-use Rattle.input.specs.Inputs.{isA, isSample, isRead, isRestart, bitAfter}
+use Rattle.input.specs.Inputs.{isA, isSample, isReport, isRead, isRestart, bitAfter}
 use Rattle.stored.specs.Stored.{channelRegistersOf}
 use Rattle.stored.specs.declared.Context.{Context}
 use Rattle.channel.specs.declared.Channel.{Channel}
@@ -63,14 +63,14 @@ lowBitAfter c m was = statusBitAfter c (limitBitsIn c) m (isLow (channelRegister
 unfoldable pub thermBitAfter : ChannelId → Context → (before after : Bool) → Bool → Bool
 thermBitAfter c m before after was = statusBitAfter c (thermBitIn c) m (not before && after) was
 
--- 5: a diode error comes from power
+-- 5: a diode error comes from power, and from a report on the diode (T-05)
 abbrev pub errorIn : ChannelId → Input → Bool
 errorIn Local i = false
 errorIn Remote1 i = eqb (i .arg) 1
 errorIn Remote2 i = eqb (i .val) 1
 
 unfoldable pub errorAfter : ChannelId → Input → Bool → Bool
-errorAfter c i was = cond (isA kind.Power i) (errorIn c i) was
+errorAfter c i was = cond (isA kind.Power i) (errorIn c i) (cond (isReport c i) (eqb (i .val) 1) was)
 
 unfoldable pub channelAfter : ChannelId → Context → Channel → Channel
 channelAfter c m was =
@@ -86,7 +86,7 @@ channelAfter c m was =
 
 -- an event that is none of the channel's, and what it leaves: the same, which is proved
 abbrev pub passesBy : ChannelId → Input → Bool
-passesBy c i = not (isRestart i || (isSample c i || isA kind.Read i))
+passesBy c i = not (isRestart i || (isSample c i || (isReport c i || isA kind.Read i)))
 
 abbrev pub channelKept : (on : Bool) → Channel → Channel
 channelKept on was =
@@ -107,7 +107,7 @@ readsStatus m = isRead (statusAt One) (m .pointer) (m .input) || isRead (statusA
 -- an event that is none of any channel's, while all of them are enabled: it leaves them, which is proved
 abbrev pub untouchedIn : Context → Bool
 untouchedIn m =
-    not (isRestart (m .input) || (isA kind.Sample (m .input) || readsStatus m))
+    not (isRestart (m .input) || (isA kind.Sample (m .input) || (isA kind.Diode (m .input) || readsStatus m)))
     && (channelOnIn Local m && (channelOnIn Remote1 m && channelOnIn Remote2 m))
 
 -- the three channels

@@ -74,7 +74,7 @@ fn is_on(c: ChannelId, m: Context) -> bool
     stored::channel_enabled(c, m.registers.config2)
 }
 
-// The diode error that power brings, and that stays until the next.
+// The diode error that power brings; it stays until the next power or report on the diode.
 fn error_in(c: ChannelId, i: Input) -> bool
     ensures { λ b. ⌜ b ≡ errorIn c i ⌝ }
 {
@@ -89,17 +89,21 @@ fn error_after(c: ChannelId, i: Input, was: bool) -> bool
     ensures { λ b. ⌜ b ≡ errorAfter c i was ⌝ }
 {
     if input::is_a(Kind::Power, i) {
-        error_in(c, i)
+        return error_in(c, i);
+    }
+    if input::is_report(c, i) {
+        i.val == 1
     } else {
         was
     }
 }
 
-// An event that is none of the channel's: no start afresh, no sample of it, no read.
+// An event that is none of the channel's: no start afresh, no sample of it, no report on its diode, no read.
 fn passes_by(c: ChannelId, i: Input) -> bool
     ensures { λ b. ⌜ b ≡ passesBy c i ⌝ }
 {
-    !(input::is_restart(i) | (input::is_sample(c, i) | input::is_a(Kind::Read, i)))
+    !(input::is_restart(i)
+        | (input::is_sample(c, i) | (input::is_report(c, i) | input::is_a(Kind::Read, i))))
 }
 
 // The channel after such an event: at most its enable bit has become 0.
@@ -160,7 +164,8 @@ fn untouched(m: Context) -> bool
     ensures { λ b. ⌜ b ≡ untouchedIn m ⌝ }
 {
     let none = !(input::is_restart(m.input)
-        | (input::is_a(Kind::Sample, m.input) | reads_status(m)));
+        | (input::is_a(Kind::Sample, m.input)
+            | (input::is_a(Kind::Diode, m.input) | reads_status(m))));
     none
         & (is_on(ChannelId::Local, m)
             & (is_on(ChannelId::Remote1, m) & is_on(ChannelId::Remote2, m)))

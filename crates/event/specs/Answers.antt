@@ -1,8 +1,8 @@
--- Document 01, "The reply numbers": the number and the data of each answer. 12 is T-02's, of document 02.
+-- Document 01, "The reply numbers": the number and the data of each answer. 12 and 13 are T-02's and T-05's, of document 02.
 use Prim.Native.Nat.{ℕ}
 use Rattle.event.specs.declared.Refusal.{Refusal}
 use Rattle.event.specs.declared.Refusal.the-variants.{NoPower, OtherAddress, NoSuchPart, NoSuchRegister, ReadOnly, OutOfRange, BadRangeCode, OddLocal}
-use Rattle.event.specs.declared.Refusal.the-variants.{NotMonitoring, Malformed, WrongSize, NoAlert}
+use Rattle.event.specs.declared.Refusal.the-variants.{NotMonitoring, Malformed, WrongSize, NoAlert, BrokenDiode}
 use Rattle.event.specs.declared.Answer.{Answer}
 use Rattle.event.specs.declared.Answer.the-variants.{Done, Refused}
 
@@ -19,6 +19,7 @@ refusalNumber NotMonitoring = 9
 refusalNumber Malformed = 10
 refusalNumber WrongSize = 11
 refusalNumber NoAlert = 12
+refusalNumber BrokenDiode = 13
 
 abbrev pub numberOf : Answer → ℕ
 numberOf (Done d) = 0

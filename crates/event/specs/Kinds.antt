@@ -1,4 +1,4 @@
--- Document 01, "Events and what each carries": an event is a kind and three numbers. Alert is T-02's, of document 02.
+-- Document 01, "Events and what each carries": an event is a kind and three numbers. Alert and diode are T-02's and T-05's, of document 02.
 use Prim.Native.Nat.{ℕ}
 use mathlib.Core.Bool.{Bool}
 use mathlib.Core.List.{List, [], _∷_}
@@ -22,6 +22,7 @@ kindOf (event.Pin n) = kind.Pin
 kindOf (event.Clock n) = kind.Clock
 kindOf (event.Period n) = kind.Period
 kindOf (event.Alert n) = kind.Alert
+kindOf (event.Diode n) = kind.Diode
 
 abbrev pub numbersOf : Event → Numbers
 numbersOf (event.Power n) = n
@@ -34,6 +35,7 @@ numbersOf (event.Pin n) = n
 numbersOf (event.Clock n) = n
 numbersOf (event.Period n) = n
 numbersOf (event.Alert n) = n
+numbersOf (event.Diode n) = n
 
 abbrev pub eventOf : Kind → Numbers → Event
 eventOf kind.Power n = event.Power n
@@ -46,10 +48,12 @@ eventOf kind.Pin n = event.Pin n
 eventOf kind.Clock n = event.Clock n
 eventOf kind.Period n = event.Period n
 eventOf kind.Alert n = event.Alert n
+eventOf kind.Diode n = event.Diode n
 
 -- every kind, in the order of the table
 abbrev pub kinds : List Kind
-kinds = kind.Power ∷ kind.Write ∷ kind.Point ∷ kind.Read ∷ kind.Sample ∷ kind.Tach ∷ kind.Pin ∷ kind.Clock ∷ kind.Period ∷ kind.Alert ∷ []
+kinds =
+    kind.Power ∷ kind.Write ∷ kind.Point ∷ kind.Read ∷ kind.Sample ∷ kind.Tach ∷ kind.Pin ∷ kind.Clock ∷ kind.Period ∷ kind.Alert ∷ kind.Diode ∷ []
 
 -- the kind at a place of the table; the first one past its end
 abbrev pub kindAt : (place : ℕ) → Kind
@@ -67,6 +71,7 @@ placeOf kind.Pin = 6
 placeOf kind.Clock = 7
 placeOf kind.Period = 8
 placeOf kind.Alert = 9
+placeOf kind.Diode = 10
 
 abbrev pub isKind : Kind → Event → Bool
 isKind k e = eqb (placeOf (kindOf e)) (placeOf k)

@@ -28,6 +28,7 @@ pub enum Event {
     Clock(Numbers),
     Period(Numbers),
     Alert(Numbers),
+    Diode(Numbers),
 }
 
 // The kinds of document 01's table, in its order, and those of document 02 behind them.
@@ -42,6 +43,7 @@ pub enum Kind {
     Clock,
     Period,
     Alert,
+    Diode,
 }
 
 fn transfer_kind(t: Transfer) -> Kind
@@ -66,6 +68,7 @@ pub fn kind_of(e: Event) -> Kind
         Event::Clock(_) => Kind::Clock,
         Event::Period(_) => Kind::Period,
         Event::Alert(_) => Kind::Alert,
+        Event::Diode(_) => Kind::Diode,
     }
 }
 
@@ -91,6 +94,7 @@ pub fn numbers_of(e: Event) -> Numbers
         Event::Clock(n) => n,
         Event::Period(n) => n,
         Event::Alert(n) => n,
+        Event::Diode(n) => n,
     }
 }
 
@@ -109,6 +113,7 @@ fn of_kind(k: Kind, n: Numbers) -> Event
         Kind::Clock => Event::Clock(n),
         Kind::Period => Event::Period(n),
         Kind::Alert => Event::Alert(n),
+        Kind::Diode => Event::Diode(n),
     }
 }
 
@@ -133,12 +138,13 @@ pub fn place_of(k: Kind) -> u8
         Kind::Clock => 7,
         Kind::Period => 8,
         Kind::Alert => 9,
+        Kind::Diode => 10,
     }
 }
 
-pub const KIND_COUNT: u16 = 10;
+pub const KIND_COUNT: u16 = 11;
 
-const KINDS: [Kind; 10] = [
+const KINDS: [Kind; 11] = [
     Kind::Power,
     Kind::Write,
     Kind::Point,
@@ -149,6 +155,7 @@ const KINDS: [Kind; 10] = [
     Kind::Clock,
     Kind::Period,
     Kind::Alert,
+    Kind::Diode,
 ];
 
 // The kind at a place of the table; the first one past its end.
@@ -175,6 +182,7 @@ pub enum Refusal {
     Malformed,
     WrongSize,
     NoAlert,
+    BrokenDiode,
 }
 
 // What any of them is answered: done, with data that only a read and a row hand out, or a refusal.
@@ -199,6 +207,7 @@ pub fn refusal_number(r: Refusal) -> u8
         Refusal::Malformed => 10,
         Refusal::WrongSize => 11,
         Refusal::NoAlert => 12,
+        Refusal::BrokenDiode => 13,
     }
 }
 

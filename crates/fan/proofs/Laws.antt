@@ -3,13 +3,15 @@ use Prim.Native.Nat.{ℕ, _*_, max}
 use mathlib.Core.Bool.{Bool, true, false, not, _&&_}
 use mathlib.Core.Path.{_≡_, sym, _∙_}
 use Rattle.integer.specs.Bits.{bitOf}
+use Rattle.integer.proofs.BoolLaws.{by-cases, both}
+use Rattle.part.specs.declared.ChannelId.{ChannelId}
 use Rattle.part.specs.declared.ChannelId.the-variants.{Local, Remote1, Remote2}
 use Rattle.part.specs.declared.FanId.{FanId}
 use Rattle.rules.specs.Registers.{statusAt}
 use Rattle.rules.specs.Fields.{assignment, outputEnabled, tachEnabled, speedCode, filterEnabled}
-use Rattle.rules.specs.Targets.{assignedBy, demandIf, targetOf}
+use Rattle.rules.specs.Targets.{tminOf, rangeOf, assignedBy, demandIf, targetOf}
 use Rattle.rules.specs.Duties.{rateOf, spinUpOf}
-use Rattle.demand.specs.Demand.{overriddenOf}
+use Rattle.demand.specs.Demand.{demandOf, overriddenOf}
 use Rattle.drive.specs.Drive.{drivenOf, alarmOf}
 use Rattle.drive.specs.Tach.{judgedOf, failedOf}
 use Rattle.drive.specs.declared.Drive.{Drive}
@@ -18,9 +20,11 @@ use Rattle.drive.specs.declared.FanInput.{FanInput}
 use Rattle.input.specs.Inputs.{byteIn, isCount, isRestart, isRead, bitAfter}
 use Rattle.input.specs.declared.Input.{Input}
 use Rattle.stored.specs.Stored.{fanRegistersOf}
+use Rattle.stored.specs.declared.ChannelRegisters.{ChannelRegisters}
 use Rattle.stored.specs.declared.FanRegisters.{FanRegisters}
 use Rattle.stored.specs.declared.Registers.{Registers}
 use Rattle.stored.specs.declared.Context.{Context}
+use Rattle.channel.specs.declared.Channel.{Channel}
 use Rattle.channel.specs.declared.Channels.{Channels}
 use Rattle.channel.specs.Channels.{thermOf}
 use Rattle.fan.specs.Fans.{channelDemand, fanTarget, settingOf, stopped, priorFan, judgesFan, fanInputOf, fanRun, fanUnder, fanAfter}
@@ -32,6 +36,18 @@ module _ (i : Input) (was : Fan) {f : Bool} (e : f ≡ isRestart i) where
 
   pub prior-kept : f ≡ false → was ≡ priorFan i was
   prior-kept t = rw (sym e ∙ t)
+
+-- what a channel asks: the full duty where it is assigned and its diode is in error; else by its run flag and reading
+module _
+    (f : FanId) (c : ChannelId) (s : Registers) (l : ChannelRegisters) (ch : Channel) {a : Bool}
+    (ea : a ≡ assignedBy (assignment (s .config1)) f c) where
+  pub asked-broken : (a && ch .error) ≡ true → 240 ≡ demandIf (assignedBy (assignment (s .config1)) f c) (channelDemand f (s .speeds) l ch)
+  asked-broken t = let y = both a (ch .error) t in rw (sym ea ∙ y .0, y .1)
+
+  pub asked-sound : {m n : ℕ} → (a && ch .error) ≡ false → m ≡ speedCode f (s .speeds)
+      → n ≡ demandIf a (demandOf (ch .flag) m (tminOf (l .control)) (rangeOf (l .control)) (ch .reading))
+      → n ≡ demandIf (assignedBy (assignment (s .config1)) f c) (channelDemand f (s .speeds) l ch)
+  asked-sound q em en = en ∙ rw (← ea, em) (by-cases a (λ y. rw (y, rw y at q)) (λ y. rw y))
 
 -- the target, in automatic mode and in manual mode
 module _ (f : FanId) (s : Registers) (cs : Channels) {on : Bool} (e : on ≡ bitOf (s .config1) 7) where

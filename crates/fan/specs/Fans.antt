@@ -24,9 +24,10 @@ use Rattle.channel.specs.declared.Channels.{Channels}
 use Rattle.channel.specs.Channels.{thermOf}
 use Rattle.fan.specs.declared.Fan.{Fan}
 
--- duty 2: what a channel demands of a fan
+-- duty 2: what a channel demands of a fan; T-05: 240 while its diode is in error, whatever the run flag
 abbrev pub channelDemand : FanId → (speeds : ℕ) → ChannelRegisters → Channel → ℕ
-channelDemand f speeds l ch = demandOf (ch .flag) (speedCode f speeds) (tminOf (l .control)) (rangeOf (l .control)) (ch .reading)
+channelDemand f speeds l ch =
+    cond (ch .error) 240 (demandOf (ch .flag) (speedCode f speeds) (tminOf (l .control)) (rangeOf (l .control)) (ch .reading))
 
 -- duty 3: the target, from the registers and channels as they stand after the event
 unfoldable pub fanTarget : FanId → Registers → Channels → ℕ

@@ -33,8 +33,12 @@ pub struct Fan {
 pub fn channel_asked(f: FanId, c: ChannelId, s: Registers, l: ChannelRegisters, ch: Channel) -> u8
     ensures { λ r. ⌜ r ≡ demandIf (assignedBy (assignment (s .config1)) f c) (channelDemand f (s .speeds) l ch) ⌝ }
 {
+    let assigned = demand::assigned(s.config1 / 32 % 4, f, c);
+    if assigned & ch.error {
+        return 240;
+    }
     demand::asked(
-        demand::assigned(s.config1 / 32 % 4, f, c),
+        assigned,
         ch.flag,
         demand::speed_code(f, s.speeds),
         l.control,

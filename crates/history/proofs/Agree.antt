@@ -86,7 +86,7 @@ is-on d = by-cases (powered d) (λ p. rw p) (λ p. rw p)
 
 -- the reply is that of the rules
 reply-is : (e : Event) {d : Taken} → Took d → lowestIn (standingOf (stateBy d)) (inputOf e) ≡ replyTo e d
-unfolding replyTo deviceBy chipBy portBy registersBy
+unfolding replyTo deviceBy chipBy portBy registersBy channelsBy channelBy
 reply-is e {d} t = ap (λ (s : Standing). lowestIn s (inputOf e)) standing-is ∙ right _ e (omega (arith, own-small t))
   where
     standing-is : standingOf (stateBy d) ≡ keeping.standingWith (powered d) (deviceBy d .chip)

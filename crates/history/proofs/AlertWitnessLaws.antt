@@ -27,7 +27,7 @@ use Rattle.history.specs.AlertWitness.{shownInt, watching, hot, quiet, r
 use Rattle.history.proofs.Agree.{agreement}
 
 -- what the program shows is what the rules say
-int-is : (h : History) → shownInt h ≡ shown (taken h) .int
+pub int-is : (h : History) → shownInt h ≡ shown (taken h) .int
 int-is h = ap (λ (s : Shown). s .int) (agreement h .shows)
 
 -- a list of quiet events by one test that computes

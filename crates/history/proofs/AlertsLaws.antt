@@ -1,7 +1,7 @@
 -- An alert lets INT go and changes nothing else of the keeper; no stretch ends at one. Assumes nothing.
 use Prim.Native.Nat.{ℕ}
 use mathlib.Core.Path.{_≡_, refl, sym, ap, _∙_, subst}
-use mathlib.Core.Bool.{true, false, _||_, and-false}
+use mathlib.Core.Bool.{true, _||_}
 use mathlib.Core.List.{List, [], _∷_, _++_}
 use Rattle.integer.proofs.BoolLaws.{by-cases}
 use Rattle.part.specs.declared.FanId.{FanId}
@@ -17,16 +17,17 @@ use Rattle.rules.specs.Duties.{enabled}
 use Rattle.rules.specs.Shows.{intDue, silenced, shown}
 use Rattle.rules.proofs.TakenLaws.{refused-is, accepted-is}
 use Rattle.rules.proofs.CalmLaws.{Untouched, target-same, override-same}
+use Rattle.rules.proofs.IdleLaws as idle
 use Rattle.rules.proofs.AlertLaws as alert
 use Rattle.rules.proofs.SilenceLaws.{not-due, alert-out}
 use Rattle.drive.specs.Ramp.{Inside}
 use Rattle.keeper.specs.Keeping.{shownBy}
 use Rattle.history.specs.Agreement.{run}
-use Rattle.history.specs.Demand3.{disturbs, Settled, Stretch}
+use Rattle.history.specs.Demand3.{Settled, Stretch}
 use Rattle.history.specs.MovingTarget.{Within, MovingStretch}
 use Rattle.history.specs.Alerts.{Alerts}
 use Rattle.history.proofs.State.{chipBy, deviceBy, stateBy}
-use Rattle.history.proofs.AlertChipLaws.{chip-same}
+use Rattle.history.proofs.IdleChipLaws.{chip-same, calm}
 use Rattle.history.proofs.Agree.{agree, agreement, chip-run}
 
 -- ---- the keeper
@@ -37,7 +38,7 @@ module _ (e : Event) (h : History) (alerts : isKind kind.Alert e ≡ true) where
   through x q = by-cases (accepted e h) (λ go. ap x (accepted-is e h go) ∙ q) (λ bad. ap x (refused-is e h bad))
 
   chip-kept : chipBy (taken (e ∷ h)) ≡ chipBy (taken h)
-  chip-kept = through chipBy (chip-same e (taken h) alerts)
+  chip-kept = through chipBy (chip-same e (taken h) (alert.is-not e (taken h) alerts) (alert.errors e (taken h) alerts))
 
   -- INT not asserted: let go already, or not due, so that it is let go after the alert just if it was before
   not-begun : shown (taken h) .int ≡ 0 → (silenced (taken h) || intDue (taken h)) ≡ silenced (taken h)
@@ -45,11 +46,17 @@ module _ (e : Event) (h : History) (alerts : isKind kind.Alert e ≡ true) where
 
   device-kept : shown (taken h) .int ≡ 0 → deviceBy (taken (e ∷ h)) ≡ deviceBy (taken h)
   unfolding deviceBy
-  device-kept z = through deviceBy (rw (chip-same e (taken h) alerts, alert.silence-is e (taken h) alerts, not-begun z))
+  device-kept z =
+      through deviceBy
+      (rw (
+        chip-same e (taken h) (alert.is-not e (taken h) alerts) (alert.errors e (taken h) alerts),
+        alert.silence-is e (taken h) alerts,
+        not-begun z,
+      ))
 
   power-kept : powered (taken (e ∷ h)) ≡ powered (taken h)
   unfolding powered
-  power-kept = through powered (rw (alert.kind-is e (taken h) alerts kind.Power))
+  power-kept = through powered (rw (alert.is-not e (taken h) alerts kind.Power refl))
 
   unchanged : shownBy (run h) .int ≡ 0 → run (e ∷ h) ≡ run h
   unfolding stateBy
@@ -64,15 +71,10 @@ module _ (e : Event) (h : History) (alerts : isKind kind.Alert e ≡ true) where
   -- ---- stretches
 
   abbrev u : Untouched e (taken h)
-  u = alert.settled e (taken h) alerts
-
-  calm : (f : FanId) → disturbs f e h ≡ false
-  unfolding disturbs
-  calm f =
-      rw (alert.kind-is e (taken h) alerts kind.Write, alert.kind-is e (taken h) alerts kind.Power, alert.fine e (taken h) alerts f, and-false (accepted e h))
+  u = idle.settled e (taken h) (alert.is-not e (taken h) alerts)
 
   aim-same : (f : FanId) → target f (taken (e ∷ h)) ≡ target f (taken h)
-  aim-same f = through (target f) (target-same e (taken h) u f)
+  aim-same f = through (target f) (target-same e (taken h) u (alert.errors e (taken h) alerts) f)
 
   free-same : overridden (taken (e ∷ h)) ≡ overridden (taken h)
   free-same = through overridden (override-same e (taken h) u)
@@ -104,7 +106,7 @@ alerts h =
       letGo = λ e y go. let-go e h y go;
       unchanged = λ e y z. unchanged e h y z;
       chip = λ e y. chip-run (e ∷ h) ∙ (chip-kept e h y ∙ sym (chip-run h));
-      calm = λ f e y. calm e h y f;
-      stretch = λ f d s e y st. (st, calm e (s ++ h) y f, settled-same e (s ++ h) y f d (settled-at f d s h st));
-      moving = λ f a b s e y st. (st, calm e (s ++ h) y f, within-same e (s ++ h) y f a b (within-at f a b s h st));
+      calm = λ f e y. calm e h (alert.is-not e (taken h) y) f;
+      stretch = λ f d s e y st. (st, calm e (s ++ h) (alert.is-not e (taken h) y) f, settled-same e (s ++ h) y f d (settled-at f d s h st));
+      moving = λ f a b s e y st. (st, calm e (s ++ h) (alert.is-not e (taken h) y) f, within-same e (s ++ h) y f a b (within-at f a b s h st));
     }

@@ -18,12 +18,13 @@ use Rattle.rules.specs.Events.{periods, restarts}
 use Rattle.rules.specs.Stored.{Taken, storedAt}
 use Rattle.rules.specs.Replies.{History, taken}
 use Rattle.rules.specs.Temperatures.{temperature, wholeByte, remainder}
-use Rattle.rules.specs.Targets.{flag, demand, assignedBy, demandIf, targetOf, target, overridden}
+use Rattle.rules.specs.Targets.{demand, assignedBy, demandIf, targetOf, target, overridden}
 use Rattle.rules.specs.Duties.{enabled, filtered, Spin, prior, nearer, dutyAfter, spinAt, spinAfter, spin, duty}
 use Rattle.rules.specs.Shows.{status, byteAt, value}
 use Rattle.history.specs.Bounds.{Bounds}
 use Rattle.rules.proofs.TakenLaws.{Took, took}
 use Rattle.rules.proofs.StoredLaws.{byte}
+use Rattle.rules.proofs.PageDutiesLaws.{demand-small}
 
 -- ---- register values
 
@@ -60,10 +61,6 @@ value-byte a {d} t =
 
 if-small : (b : Bool) (d : ℕ) → d ≤ 240 → demandIf b d ≤ 240
 if-small b d h = either (λ x. x ≤ 240) b h (omega arith)
-
-demand-small : (f : FanId) (c : ChannelId) (d : Taken) → demand f c d ≤ 240
-unfolding demand
-demand-small f c d = either (λ x. x ≤ 240) (flag c d) (omega arith) (omega arith)
 
 code-small : (f : FanId) (byte : ℕ) → 16 * speedCode f byte ≤ 240
 code-small One byte = omega arith

@@ -1,8 +1,8 @@
 -- Demand 1 holds of every keeper and every event. Assumes nothing.
 use Prim.Native.Nat.{ℕ, zero, suc, _<_, _≤_}
-use mathlib.Core.Path.{_≡_, refl, sym, ap, _∙_}
+use mathlib.Core.Path.{_≡_, refl, sym, _∙_}
 use mathlib.Core.Bool.{Bool, true, false, cond, not, true≢false}
-use mathlib.Core.List.{List, [], _∷_}
+use mathlib.Core.List.{List}
 use native.Mathlib.Omega.{arith}
 use lib.Dec.{eqb, ltb}
 use lib.ListN.{length, getD, List·getD-eq-default}
@@ -10,11 +10,9 @@ use borrow.Author.Tests.{ltb-true, eqb-true, eqb-false, ne-eqb, lt-ltb, le-ltb}
 use Rattle.integer.proofs.BoolLaws.{by-cases}
 use Rattle.event.specs.Answers.{numberOf, dataOf}
 use Rattle.event.specs.declared.Answer.{Answer}
-use Rattle.event.specs.declared.Answer.the-variants.{Done, Refused}
-use Rattle.event.specs.declared.Refusal.the-variants.{NoPower, OtherAddress, NoSuchPart, NoSuchRegister, ReadOnly, OutOfRange, BadRangeCode, OddLocal}
-use Rattle.event.specs.declared.Refusal.the-variants.{NotMonitoring}
+use Rattle.event.specs.declared.Answer.the-variants.{Done}
 use Rattle.event.specs.declared.Event.{Event}
-use Rattle.rules.specs.Replies.{noPower, otherAddress, noPart, noRegister, readOnly, outOfRange, badCode, oddLocal, notMonitoring, lowest, accepts}
+use Rattle.rules.specs.Replies.{lowest, accepts}
 use Rattle.judge.proofs.RightLaws.{right}
 use Rattle.keeper.specs.Keeping.{isOn, standingOf, outcomeOf, shownBy, imageAnswer, imageBuffer}
 use Rattle.keeper.specs.declared.Keeper.{Keeper}
@@ -27,7 +25,7 @@ abbrev test : Keeper → Event → ℕ → Bool
 test k e n = getD (conditions k e) n false
 
 abbrev replyOf : Keeper → Event → Answer
-replyOf k e = lowest (isOn k) (standingOf k .address) (standingOf k .monitoring) e
+replyOf k e = lowest (isOn k) (standingOf k .address) (standingOf k .monitoring) (standingOf k .error1) (standingOf k .error2) e
 
 -- of the numbers from m up, the answer has the lowest that applies, or 0 where none does; where it is not 0, the data is 0
 record Lowest (k : Keeper) (e : Event) (m : ℕ) (a : Answer) : Type 0 where
@@ -39,7 +37,7 @@ module _ (k : Keeper) (e : Event) where
   untested : (n : ℕ) → test k e n ≡ false → Applies k e n → ⊥
   untested n f p = true≢false (sym p ∙ f)
 
-  last : Lowest k e 10 (Done 0)
+  last : Lowest k e 14 (Done 0)
   last =
       record {
         given = λ h. absurd (omega arith);
@@ -62,9 +60,25 @@ module _ (k : Keeper) (e : Event) where
         empty = rest .empty;
       }))
 
+  -- a number that no event gets
+  past : (a : Answer) (m : ℕ) → test k e m ≡ false → Lowest k e (suc m) a → Lowest k e m a
+  past a m f rest =
+      record {
+        given = rest .given;
+        lowest = λ n l p.
+            by-cases (eqb n m)
+            (λ q. absurd (untested n (rw (eqb-true n m q) f) p))
+            (λ q. rest .lowest n (omega (arith, eqb-false n m q)) p);
+        empty = rest .empty;
+      }
+
+  -- 10, 11 and 12
+  gap : (a : Answer) → Lowest k e 13 a → Lowest k e 10 a
+  gap a rest = past a 10 refl (past a 11 refl (past a 12 refl rest))
+
   chosen : Lowest k e 1 (replyOf k e)
   unfolding lowest
-  chosen = search (before, last) depth 60
+  chosen = search (before, gap, last) depth 70
 
 -- ---- the register image
 

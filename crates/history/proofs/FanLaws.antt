@@ -17,7 +17,7 @@ use Rattle.event.specs.declared.Kind.the-variants as kind
 use Rattle.rules.specs.Registers.{speeds, controlAt, statusAt, tachLimitAt}
 use Rattle.rules.specs.Fields.{speedCode}
 use Rattle.rules.specs.Events.{byteGiven, measures, periods, reads, restarts}
-use Rattle.rules.specs.Stored.{Taken, storedAt, pointer, pinLow}
+use Rattle.rules.specs.Stored.{Taken, storedAt, pointer, pinLow, diodeError}
 use Rattle.rules.specs.Replies as replies
 use Rattle.rules.specs.Temperatures.{temperature, thermAsserted}
 use Rattle.rules.specs.Targets.{tminOf, rangeOf, flag, demand, target, overridden}
@@ -42,10 +42,12 @@ use Rattle.history.proofs.HeldLaws.{held}
 
 module _ (f : FanId) (d : Taken) where
   pub demand-is : (c : ChannelId)
-      → demandOf (flag c d) (speedCode f (storedAt speeds d)) (tminOf (storedAt (controlAt c) d)) (rangeOf (storedAt (controlAt c) d))
-      (eighthsHeld (temperature c d)) ≡ demand f c d
+      → cond (diodeError c d) 240
+      (demandOf (flag c d) (speedCode f (storedAt speeds d)) (tminOf (storedAt (controlAt c) d)) (rangeOf (storedAt (controlAt c) d))
+      (eighthsHeld (temperature c d)))
+      ≡ demand f c d
   unfolding demand
-  demand-is c = faithful-demand (temperature c d) (eighthsHeld (temperature c d)) (held d c) _ _ _ _
+  demand-is c = ap (cond (diodeError c d) 240) (faithful-demand (temperature c d) (eighthsHeld (temperature c d)) (held d c) _ _ _ _)
 
   own-registers : fanRegistersOf (registersBy d) f ≡ fanRegistersBy f d
   unfolding registersBy

@@ -11,12 +11,14 @@ pub mod StretchLaws
 pub mod MovingTargetLaws
 pub mod StillTargetLaws
 pub mod Demand3Laws
-pub mod AlertChipLaws
+pub mod IdleChipLaws
 pub mod AlertsLaws
+pub mod DiodesLaws
 pub mod BoundsLaws
 pub mod ReadbackLaws
 pub mod CountsLaws
 pub mod AlertWitnessLaws
 pub mod ReasonWitnessLaws
+pub mod DiodeWitnessLaws
 pub mod WitnessLaws
 pub mod Proved

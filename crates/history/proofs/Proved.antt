@@ -8,6 +8,7 @@ use Rattle.history.proofs.ReadbackLaws.{readback}
 use Rattle.history.proofs.MovingTargetLaws.{moving-target}
 use Rattle.history.proofs.Demand3Laws.{demand3}
 use Rattle.history.proofs.AlertsLaws.{alerts}
+use Rattle.history.proofs.DiodesLaws.{diodes}
 use Rattle.history.proofs.CountsLaws.{counts}
 use Rattle.history.proofs.BoundsLaws.{bounds}
 use Rattle.history.proofs.WitnessLaws.{witness}
@@ -21,6 +22,7 @@ proved h =
       demand3 = demand3 h;
       movingTarget = moving-target h;
       alerts = alerts h;
+      diodes = diodes h;
       page = page h;
       counts = counts h;
       bounds = bounds h;

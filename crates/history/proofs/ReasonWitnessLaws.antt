@@ -7,7 +7,7 @@ use Rattle.part.specs.declared.FanId.{FanId}
 use Rattle.part.specs.declared.FanId.the-variants.{One, Two}
 use Rattle.rules.specs.Registers.{says, table, existsAt, maskAt, resetAt, readOnlyAt}
 use Rattle.rules.specs.Events.{rangesOf}
-use Rattle.rules.specs.Stored.{powered, ownAddress, storedAt, pinLow}
+use Rattle.rules.specs.Stored.{powered, ownAddress, storedAt, pinLow, diodeError}
 use Rattle.rules.specs.Replies.{lowest, replyTo, History, taken}
 use Rattle.rules.specs.Offsets.{measuredZ}
 use Rattle.rules.specs.Temperatures.{temperature, latch, thermAsserted}
@@ -22,12 +22,13 @@ use Rattle.history.specs.ReasonWitness.{powered44, warm, lowAndDisabled,
 use Rattle.history.proofs.Agree.{agreement}
 
 -- what the program tells is what the rules say
-told : (f : FanId) (h : History) → whyOf (run h) (pos (byFan 1 2 f)) ≡ toldOf f h
+pub told : (f : FanId) (h : History) → whyOf (run h) (pos (byFan 1 2 f)) ≡ toldOf f h
 told f h = agreement h .why (pos (byFan 1 2 f))
 
 pub reason-witness : ReasonWitness
 unfolding taken replyTo lowest rangesOf existsAt readOnlyAt maskAt resetAt says table powered ownAddress storedAt pinLow temperature latch thermAsserted
-    flag demand assignedBy targetOf target overridden rateOf spinUpOf nearer dutyAfter spinAfter spin duty mergedOf rangeOf measuredZ reasonFor whyFor
+    diodeError flag demand assignedBy targetOf target overridden rateOf spinUpOf nearer dutyAfter spinAfter spin duty mergedOf rangeOf measuredZ
+    reasonFor whyFor
 reason-witness =
     record {
       disabled = told One lowAndDisabled;

@@ -1,14 +1,11 @@
 -- One accepted event: port, registers and channels of the engine move as the rules say. Assumes nothing.
-use Prim.Native.Nat.{ℕ, _-_, _<_, _%_}
+use Prim.Native.Nat.{ℕ, _-_, _<_}
 use mathlib.Core.Path.{_≡_, refl, sym, ap, _∙_}
-use mathlib.Core.Bool.{Bool, true, false, cond, not, _&&_, _||_}
-use mathlib.Core.List.{[], _∷_}
+use mathlib.Core.Bool.{Bool, true, false, cond, _&&_, _||_}
+use mathlib.Core.List.{_∷_}
 use native.Mathlib.Omega.{arith}
-use lib.Bits.{bitAnd, and-le-r, or-lt}
-use lib.Dec.{eqb}
-use lib.IntN.{ℤ, pos}
-use Rattle.integer.proofs.BoolLaws.{by-cases, either, both}
-use Rattle.integer.specs.Bits.{mergedOf}
+use lib.IntN.{pos}
+use Rattle.integer.proofs.BoolLaws.{by-cases, both}
 use Rattle.integer.specs.Range.{eighthsOf}
 use Rattle.integer.specs.declared.Ranged.the-variants.{In}
 use Rattle.part.specs.declared.ChannelId.{ChannelId}
@@ -18,26 +15,23 @@ use Rattle.part.specs.declared.FanId.the-variants.{One, Two}
 use Rattle.event.specs.Kinds.{isKind}
 use Rattle.event.specs.declared.Event.{Event}
 use Rattle.event.specs.declared.Kind.the-variants as kind
-use Rattle.rules.specs.Registers.{config2, statusAt, offsetAt, highLimitAt, lowLimitAt, thermLimitAt, controlAt, speedAt, tachLimitAt, characteristicsAt}
-use Rattle.rules.specs.Registers.{maskAt, resetAt}
-use Rattle.rules.specs.Events.{who, arg, val, isNumber, natural, registerGiven, byteGiven, samples, measures, reads, writes, restarts}
-use Rattle.rules.specs.Stored.{Taken, powered, ownAddress, counts, storedAt, pointer, pinLow, errorGiven, diodeError, pulledBit}
+use Rattle.rules.specs.Registers.{offsetAt, highLimitAt, lowLimitAt, thermLimitAt, controlAt, speedAt, tachLimitAt, characteristicsAt}
+use Rattle.rules.specs.Events.{arg, val, samples, writes, restarts}
+use Rattle.rules.specs.Stored.{Taken, ownAddress, counts, storedAt, pointer, pinLow, errorGiven, diodeError, pulledBit}
 use Rattle.rules.specs.Replies as replies
 use Rattle.rules.specs.Offsets.{measured}
-use Rattle.rules.specs.Temperatures.{temperature, limit, latch, channelOn, limitBitsIn, thermBitIn, clears, highBit, lowBit, thermBit}
+use Rattle.rules.specs.Temperatures.{temperature, latch, channelOn, limitBitsIn, thermBitIn, clears, highBit, lowBit, thermBit}
 use Rattle.rules.specs.Targets.{tminOf, flag}
 use Rattle.rules.proofs.StoredLaws.{count-tach}
 use Rattle.reading.specs.Faithful.{Faithful}
 use Rattle.reading.proofs.FaithfulLaws.{faithful}
 use Rattle.reading.proofs.OffsetLaws.{faithful-offset}
-use Rattle.input.specs.Inputs.{plainOf, eighthsHeld, inputOf, bitAfter}
-use Rattle.input.proofs.PlainLaws.{plain-is, sample-is}
+use Rattle.input.specs.Inputs.{eighthsHeld, inputOf, bitAfter}
+use Rattle.input.proofs.PlainLaws.{plain-is, sample-is, report-is}
 use Rattle.stored.specs.Stored.{storedAfter, channelBytes, fanBytes, bytes, registersAfter, channelRegistersOf}
 use Rattle.channel.specs.Channels.{sampledIn, readingAfter, flagAtSample, latchAfter, flagAfter, clearsBit, statusBitAfter, highBitAfter, lowBitAfter}
 use Rattle.channel.specs.Channels.{thermBitAfter, errorIn, errorAfter, channelAfter, channelsAfter}
-use Rattle.channel.specs.declared.Channel.{Channel}
 use Rattle.chip.specs.Chips.{portAfter}
-use Rattle.chip.specs.declared.Port.{Port}
 use Rattle.history.proofs.State.{portBy, channelRegistersBy, fanRegistersBy, registersBy, contextBy, channelBy, channelsBy}
 use Rattle.history.proofs.AcceptedLaws.{own-is, register-is, written-is, counted-is, write-is, restart-is, count-at-is, sample-held}
 
@@ -174,7 +168,7 @@ module _ (e : Event) (d : Taken) (fine : replies.outOfRange e ≡ false) (small 
 
   error-is : errorAfter c (inputOf e) (diodeError c d) ≡ diodeError c (e ∷ d)
   unfolding errorAfter diodeError
-  error-is = ap (λ (b : Bool). cond (isKind kind.Power e) b (diodeError c d)) (given c)
+  error-is = rw (report-is c e, plain-is (val e) 1 (omega arith), given c)
     where
       given : (c : ChannelId) → errorIn c (inputOf e) ≡ errorGiven c e
       given Local = refl

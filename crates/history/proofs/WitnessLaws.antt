@@ -12,7 +12,7 @@ use Rattle.event.specs.declared.Event.{Event}
 use Rattle.integer.specs.Bits.{mergedOf}
 use Rattle.rules.specs.Registers.{says, table, existsAt, maskAt, resetAt, readOnlyAt}
 use Rattle.rules.specs.Events.{rangesOf}
-use Rattle.rules.specs.Stored.{powered, ownAddress, storedAt, pointer, pinLow}
+use Rattle.rules.specs.Stored.{powered, ownAddress, storedAt, pointer, pinLow, diodeError}
 use Rattle.rules.specs.Replies.{lowest, replyTo, History, taken}
 use Rattle.rules.specs.Offsets.{measuredZ}
 use Rattle.rules.specs.Temperatures.{temperature, latch, thermAsserted}
@@ -27,6 +27,7 @@ use Rattle.history.proofs.MovingTargetLaws.{shown-is}
 use Rattle.history.proofs.StillTargetLaws as still
 use Rattle.history.proofs.AlertWitnessLaws.{alert-witness}
 use Rattle.history.proofs.ReasonWitnessLaws.{reason-witness}
+use Rattle.history.proofs.DiodeWitnessLaws.{diode-witness}
 
 -- a stretch by one test that computes
 aims : FanId → (a b : ℕ) → History → Bool
@@ -57,8 +58,8 @@ standing f d s h y = still.stretch f d s h (moving f d d s h y)
 
 pub witness : Witness
 unfolding stretches aims disturbs periodsIn outside taken replyTo lowest rangesOf existsAt readOnlyAt maskAt resetAt says table powered ownAddress
-    storedAt pointer pinLow temperature latch thermAsserted flag demand assignedBy targetOf target overridden rateOf spinUpOf nearer dutyAfter spinAfter spin
-    duty judged failed failures mergedOf rangeOf measuredZ
+    storedAt pointer pinLow diodeError temperature latch thermAsserted flag demand assignedBy targetOf target overridden rateOf spinUpOf nearer dutyAfter
+    spinAfter spin duty judged failed failures mergedOf rangeOf measuredZ
 witness =
     record {
       stretch = standing One 80 (rampedDown ++ spunUp) startedFiltered refl;
@@ -107,4 +108,5 @@ witness =
       below = record { goes = refl; then = refl };
       alerts = alert-witness;
       reasons = reason-witness;
+      diodes = diode-witness;
     }

@@ -7,10 +7,11 @@ use lib.ListN.{length, getD}
 use Rattle.event.specs.Answers.{numberOf, dataOf}
 use Rattle.event.specs.declared.Event.{Event}
 use Rattle.rules.specs.Replies.{noPower, otherAddress, noPart, noRegister, readOnly, outOfRange, badCode, oddLocal, notMonitoring}
+use Rattle.rules.specs.Replies.{brokenDiode}
 use Rattle.keeper.specs.Keeping.{isOn, standingOf, outcomeOf, shownBy, imageAnswer, imageBuffer}
 use Rattle.keeper.specs.declared.Keeper.{Keeper}
 
--- the condition of each reply number, over the event's own numbers; 0 has none
+-- the condition of each reply number, over the event's own numbers; 0 has none, and no event gets 10, 11 or 12
 abbrev pub conditions : Keeper → Event → List Bool
 conditions k e =
     false
@@ -23,6 +24,10 @@ conditions k e =
     ∷ badCode e
     ∷ oddLocal e
     ∷ notMonitoring (standingOf k .monitoring) e
+    ∷ false
+    ∷ false
+    ∷ false
+    ∷ brokenDiode (standingOf k .error1) (standingOf k .error2) e
     ∷ []
 
 abbrev pub Applies : Keeper → Event → ℕ → Type 0

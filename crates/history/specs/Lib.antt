@@ -8,5 +8,7 @@ pub mod Readback
 pub mod Counts
 pub mod AlertWitness
 pub mod ReasonWitness
+pub mod DiodeWitness
+pub mod Diodes
 pub mod Witness
 pub mod Proved

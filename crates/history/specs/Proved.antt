@@ -12,6 +12,7 @@ use Rattle.history.specs.Demand3.{Demand3}
 use Rattle.history.specs.MovingTarget.{MovingTarget}
 use Rattle.history.specs.Alerts.{Alerts}
 use Rattle.history.specs.Counts.{Counts}
+use Rattle.history.specs.Diodes.{Diodes}
 use Rattle.history.specs.Bounds.{Bounds}
 use Rattle.history.specs.Witness.{Witness}
 
@@ -28,11 +29,13 @@ pub record Proved (h : History) : Type 0 where
   pub movingTarget : MovingTarget h
   -- T-02: an alert lets INT go, and changes nothing else
   pub alerts : Alerts h
-  -- the rules say what document 01, and T-01, T-02 and T-03 of document 02, say, sentence by sentence
+  -- T-05: a repeated report on a diode, and a sample of a channel in error, leave the keeper
+  pub diodes : Diodes h
+  -- the rules say what document 01, and T-01, T-02, T-03 and T-05 of document 02, say, sentence by sentence
   pub page : Page h
   -- the engine's counts are those taken from the list
   pub counts : Counts h
   -- every register value is a byte, and no duty is above 240 slots
   pub bounds : Bounds h
-  -- the premises of demand 3, of T-13 and of the sentences of T-01, T-02 and T-03 can be met
+  -- the premises of demand 3, of T-13 and of the sentences of T-01, T-02, T-03 and T-05 can be met
   pub witness : Witness

@@ -1,23 +1,24 @@
 -- Demand 3 and T-13 speak of something: lists whose stretch meets every premise, with a gap and periods above 0. So do T-01: samples under offsets,
--- T-02: alerts, and T-03: reasons.
+-- T-02: alerts, T-03: reasons, and T-05: diode errors.
 use mathlib.Core.Path.{_≡_}
 use mathlib.Core.Bool.{true, false}
 use mathlib.Core.List.{List, [], _∷_, _++_}
 use lib.IntN.{ℤ, pos, negsuc}
 use Rattle.part.specs.declared.ChannelId.{ChannelId}
-use Rattle.part.specs.declared.ChannelId.the-variants.{Local, Remote1}
+use Rattle.part.specs.declared.ChannelId.the-variants.{Local, Remote1, Remote2}
 use Rattle.part.specs.declared.FanId.the-variants.{One, Two}
 use Rattle.event.specs.declared.Event.{Event}
 use Rattle.rules.specs.Replies.{History, taken, accepted}
 use Rattle.rules.specs.Temperatures.{temperature}
 use Rattle.rules.specs.Targets.{target, overridden}
 use Rattle.rules.specs.Duties.{enabled, filtered, rate, duty, failures}
-use Rattle.rules.specs.PageWords.{power, write, point, read, alert, sampled, counted, turned, pulledLow, letGo, tenth}
+use Rattle.rules.specs.PageWords.{power, write, point, read, alert, sampled, reported, counted, turned, pulledLow, letGo, tenth}
 use Rattle.drive.specs.Ramp.{outside}
 use Rattle.history.specs.Demand3.{shownDuty, spinLeft, periodsIn, Stretch}
 use Rattle.history.specs.MovingTarget.{MovingStretch}
 use Rattle.history.specs.AlertWitness.{AlertWitness}
 use Rattle.history.specs.ReasonWitness.{ReasonWitness}
+use Rattle.history.specs.DiodeWitness.{DiodeWitness}
 
 -- power at address 44; a spin-up of 2 clocks (0x20); manual setting of 5 x 16 slots (0x00): the fan starts
 abbrev pub started : History
@@ -31,12 +32,12 @@ startedFiltered = write (pos 44) (pos 0x23) (pos 0x51) ∷ started
 abbrev pub spunUp : List Event
 spunUp = tenth ∷ tenth ∷ []
 
--- what a stretch of fan 1 may hold: a read of a status register, an alert, a count of each fan, the pin let go, a sample of another channel, a period of
--- the other fan; and a write and a power that are refused
+-- what a stretch of fan 1 may hold: a read of a status register, an alert, a count of each fan, the pin let go, a sample of another channel, a diode of
+-- another channel found in error, a period of the other fan; and a write and a power that are refused
 abbrev pub passing : List Event
 passing =
     read (pos 44) (pos 0) (pos 0) ∷ point (pos 44) (pos 0x02) (pos 0) ∷ alert (pos 44) (pos 0) (pos 0) ∷ counted Two (pos 200) ∷ counted One (pos 100)
-    ∷ letGo ∷ sampled Local (pos 160) ∷ turned Two ∷ write (pos 45) (pos 0x00) (pos 0) ∷ power (pos 47) (pos 0) (pos 0) ∷ []
+    ∷ letGo ∷ sampled Local (pos 160) ∷ reported Remote2 (pos 1) ∷ turned Two ∷ write (pos 45) (pos 0x00) (pos 0) ∷ power (pos 47) (pos 0) (pos 0) ∷ []
 
 -- two periods, and all that between them
 abbrev pub rampedDown : List Event
@@ -139,3 +140,5 @@ pub record Witness : Type 0 where
   pub alerts : AlertWitness
   -- reasons
   pub reasons : ReasonWitness
+  -- diode errors
+  pub diodes : DiodeWitness

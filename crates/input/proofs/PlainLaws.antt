@@ -12,8 +12,8 @@ use Rattle.part.specs.declared.ChannelId.the-variants.{Local, Remote1, Remote2}
 use Rattle.part.specs.declared.FanId.{FanId}
 use Rattle.part.specs.declared.FanId.the-variants.{One, Two}
 use Rattle.event.specs.declared.Event.{Event}
-use Rattle.rules.specs.Events.{who, isNumber, natural, Range, upTo, fromTo, lies, channelNumber, fanNumber, samples, measures, periods}
-use Rattle.input.specs.Inputs.{plainOf, inputOf, isSample, isCount, isPeriod}
+use Rattle.rules.specs.Events.{who, isNumber, natural, Range, upTo, fromTo, lies, channelNumber, fanNumber, samples, reports, measures, periods}
+use Rattle.input.specs.Inputs.{plainOf, inputOf, isSample, isReport, isCount, isPeriod}
 
 pub plain-is : (v : ℤ) (n : ℕ) → n < 2147483648 → eqb (plainOf v) n ≡ isNumber v n
 plain-is (pos m) n h = refl
@@ -30,7 +30,7 @@ module _ (low high : ℕ) where
   lies-number (pos m) n y = refl
   lies-number (negsuc m) n y = absurd (true≢false (sym y))
 
--- ---- samples, counts and periods
+-- ---- samples, reports, counts and periods
 
 channel-small : (c : ChannelId) → channelNumber c < 2147483648
 channel-small Local = omega arith
@@ -43,6 +43,9 @@ fan-small Two = omega arith
 
 pub sample-is : (c : ChannelId) (e : Event) → isSample c (inputOf e) ≡ samples c e
 sample-is c e = rw (plain-is (who e) (channelNumber c) (channel-small c))
+
+pub report-is : (c : ChannelId) (e : Event) → isReport c (inputOf e) ≡ reports c e
+report-is c e = rw (plain-is (who e) (channelNumber c) (channel-small c))
 
 pub count-is : (f : FanId) (e : Event) → isCount f (inputOf e) ≡ measures f e
 count-is f e = rw (plain-is (who e) (fanNumber f) (fan-small f))

@@ -47,9 +47,12 @@ isA k i = eqb (i .kind) (placeOf k)
 abbrev pub byteIn : Input → ℕ
 byteIn i = i .val % 256
 
--- a sample of the channel; a count, a period of the fan
+-- a sample of the channel, a report on its diode; a count, a period of the fan
 abbrev pub isSample : ChannelId → Input → Bool
 isSample c i = isA kind.Sample i && eqb (i .who) (channelNumber c)
+
+abbrev pub isReport : ChannelId → Input → Bool
+isReport c i = isA kind.Diode i && eqb (i .who) (channelNumber c)
 
 abbrev pub isCount : FanId → Input → Bool
 isCount f i = isA kind.Tach i && eqb (i .who) (fanNumber f)

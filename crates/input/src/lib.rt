@@ -9,8 +9,8 @@ use part::FanId;
 ghost use mathlib.Core.Path.{_≡_};
 ghost use mathlib.Core.Bool.{false, cond};
 ghost use Rattle.rules.specs.Events.{channelNumber, fanNumber};
-ghost use Rattle.input.specs.Inputs.{plainOf, insideOr, eighthsHeld, inputOf, isA, byteIn, isSample, isCount, isPeriod, isWrite, isRead, isReset};
-ghost use Rattle.input.specs.Inputs.{isRestart, bitAfter};
+ghost use Rattle.input.specs.Inputs.{plainOf, insideOr, eighthsHeld, inputOf, isA, byteIn, isSample, isReport, isCount, isPeriod, isWrite, isRead};
+ghost use Rattle.input.specs.Inputs.{isReset, isRestart, bitAfter};
 
 // The kind by its place in document 01's table, and the numbers of the event: 2147483648 stands for every negative
 // one. A val is also held as a sample, where 2048 stands for every val that is none.
@@ -103,6 +103,13 @@ pub fn is_sample(c: ChannelId, i: Input) -> bool
     ensures { λ b. ⌜ b ≡ isSample c i ⌝ }
 {
     is_a(Kind::Sample, i) & (i.who == channel_number(c))
+}
+
+// A report on the diode of the channel.
+pub fn is_report(c: ChannelId, i: Input) -> bool
+    ensures { λ b. ⌜ b ≡ isReport c i ⌝ }
+{
+    is_a(Kind::Diode, i) & (i.who == channel_number(c))
 }
 
 // A count of the fan.

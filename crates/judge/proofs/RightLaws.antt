@@ -11,6 +11,7 @@ use lib.Signed.{leZ, nonNeg}
 use borrow.Author.Tests.{eqb-true, eqb-false, leb-true, leb-false, le-leb, lt-leb, ltb-true, ltb-false, lt-ltb, eq-eqb, ne-eqb, not-false}
 use Rattle.integer.proofs.BoolLaws.{by-cases, both}
 use Rattle.integer.specs.Range.{eighthsOf}
+use Rattle.part.specs.declared.ChannelId.the-variants.{Remote1, Remote2}
 use Rattle.event.specs.Kinds.{isKind, placeOf, kindOf}
 use Rattle.event.specs.declared.Event.{Event}
 use Rattle.event.specs.declared.Kind.the-variants as kind
@@ -22,9 +23,9 @@ use Rattle.rules.specs.Replies.{isRegister, isOdd, lowest}
 use Rattle.rules.proofs.EventLaws.{val-lies}
 use Rattle.rules.proofs.RegisterLaws.{exists-small}
 use Rattle.input.specs.Inputs.{plainOf, eighthsHeld, inputOf, byteIn}
-use Rattle.input.proofs.PlainLaws.{plain-is}
+use Rattle.input.proofs.PlainLaws.{plain-is, sample-is}
 use Rattle.judge.specs.Judged.{plainRanges, rowOf, fitsRow, otherAddressIn, noPartIn, noRegisterIn, readOnlyIn, outOfRangeIn, badCodeIn}
-use Rattle.judge.specs.Judged.{oddLocalIn, lowestIn, Right}
+use Rattle.judge.specs.Judged.{oddLocalIn, brokenDiodeIn, lowestIn, Right}
 use Rattle.judge.specs.declared.Standing.{Standing}
 
 and-false : (b : Bool) → (b && false) ≡ false
@@ -195,10 +196,13 @@ module _ (s : Standing) (e : Event) (own : s .address < 256) where
   bad-code-is : badCodeIn (inputOf e) ≡ replies.badCode e
   bad-code-is = rw (within-is 0x24 0x26 (arg e) (omega arith), code-is (val e))
 
-  reply-is : lowestIn s (inputOf e) ≡ lowest (s .on) (s .address) (s .monitoring) e
+  broken-is : brokenDiodeIn s (inputOf e) ≡ replies.brokenDiode (s .error1) (s .error2) e
+  broken-is = rw (sample-is Remote1 e, sample-is Remote2 e)
+
+  reply-is : lowestIn s (inputOf e) ≡ lowest (s .on) (s .address) (s .monitoring) (s .error1) (s .error2) e
   unfolding lowestIn lowest
   reply-is =
-      rw (address-is, part-is, no-register-is, range-is e, bad-code-is)
+      rw (address-is, part-is, no-register-is, range-is e, bad-code-is, broken-is)
       (by-cases (replies.noRegister e)
       (λ y. rw y)
       (λ y. rw (read-only-is e y) (by-cases (replies.outOfRange e) (λ z. rw z) (λ z. rw (odd-is e z)))))

@@ -5,17 +5,18 @@ use mathlib.Core.Bool.{Bool, cond, not, _&&_, _||_}
 use lib.Dec.{leb, eqb}
 use lib.ListN.{getD}
 use lib.Signed.{nonNeg}
+use Rattle.part.specs.declared.ChannelId.the-variants.{Remote1, Remote2}
 use Rattle.event.specs.declared.Answer.{Answer}
 use Rattle.event.specs.declared.Answer.the-variants.{Done, Refused}
 use Rattle.event.specs.declared.Refusal.the-variants.{NoPower, OtherAddress, NoSuchPart, NoSuchRegister, ReadOnly, OutOfRange, BadRangeCode, OddLocal}
-use Rattle.event.specs.declared.Refusal.the-variants.{NotMonitoring}
+use Rattle.event.specs.declared.Refusal.the-variants.{NotMonitoring, BrokenDiode}
 use Rattle.event.specs.declared.Event.{Event}
 use Rattle.event.specs.declared.Kind.the-variants as kind
 use Rattle.rules.specs.Registers.{existsAt, readOnlyAt}
 use Rattle.rules.specs.Fields.{rangeCode}
 use Rattle.rules.specs.Events.{natural, Ranges, ranges, unused, carried}
 use Rattle.rules.specs.Replies.{lowest}
-use Rattle.input.specs.Inputs.{isA, byteIn, inputOf}
+use Rattle.input.specs.Inputs.{isA, byteIn, isSample, inputOf}
 use Rattle.input.specs.declared.Input.{Input}
 use Rattle.judge.specs.declared.PlainRanges.{PlainRanges}
 use Rattle.judge.specs.declared.Standing.{Standing}
@@ -51,7 +52,7 @@ otherAddressIn s i =
 abbrev pub noPartIn : Input → Bool
 noPartIn i =
     (isA kind.Sample i && not (leb (i .who) 2))
-    || ((isA kind.Tach i || isA kind.Period i) && not (leb 1 (i .who) && leb (i .who) 2))
+    || ((isA kind.Tach i || (isA kind.Period i || isA kind.Diode i)) && not (leb 1 (i .who) && leb (i .who) 2))
 
 abbrev pub noRegisterIn : Input → Bool
 noRegisterIn i = (isA kind.Write i || isA kind.Point i) && not (leb (i .arg) 255 && existsAt (i .arg % 256))
@@ -71,6 +72,9 @@ oddLocalIn i = isA kind.Sample i && (eqb (i .who) 0 && eqb (i .sample % 2) 1)
 abbrev pub notMonitoringIn : Standing → Input → Bool
 notMonitoringIn s i = (isA kind.Sample i || isA kind.Tach i) && not (s .monitoring)
 
+abbrev pub brokenDiodeIn : Standing → Input → Bool
+brokenDiodeIn s i = (isSample Remote1 i && s .error1) || (isSample Remote2 i && s .error2)
+
 -- the lowest that applies
 unfoldable pub lowestIn : Standing → Input → Answer
 lowestIn s i =
@@ -82,8 +86,11 @@ lowestIn s i =
     (cond (outOfRangeIn i) (Refused OutOfRange)
     (cond (badCodeIn i) (Refused BadRangeCode)
     (cond (oddLocalIn i) (Refused OddLocal)
-    (cond (notMonitoringIn s i) (Refused NotMonitoring) (Done 0)))))))))
+    (cond (notMonitoringIn s i) (Refused NotMonitoring)
+    (cond (brokenDiodeIn s i) (Refused BrokenDiode) (Done 0))))))))))
 
 -- the reply is that of the rules, for every event with every number; an address is a byte
 abbrev pub Right : Type 0
-Right = (s : Standing) (e : Event) → s .address < 256 → lowestIn s (inputOf e) ≡ lowest (s .on) (s .address) (s .monitoring) e
+Right =
+    (s : Standing) (e : Event) → s .address < 256 →
+    lowestIn s (inputOf e) ≡ lowest (s .on) (s .address) (s .monitoring) (s .error1) (s .error2) e

@@ -6,15 +6,18 @@ use event::Answer;
 use event::Kind;
 use event::Refusal;
 use input::Input;
+use part::ChannelId;
 ghost use mathlib.Core.Path.{_≡_};
 ghost use Rattle.judge.specs.Judged.{fitsRow, noPowerIn, otherAddressIn, noPartIn, noRegisterIn, readOnlyIn, outOfRangeIn, badCodeIn};
-ghost use Rattle.judge.specs.Judged.{oddLocalIn, notMonitoringIn, lowestIn};
+ghost use Rattle.judge.specs.Judged.{oddLocalIn, notMonitoringIn, brokenDiodeIn, lowestIn};
 
 // What of the past a reply asks.
 pub struct Standing {
     pub on: bool,
     pub address: u8,
     pub monitoring: bool,
+    pub error1: bool,
+    pub error2: bool,
 }
 
 // The ranges of a kind's numbers: who from low to high, the others from 0.
@@ -54,7 +57,8 @@ fn no_part(i: Input) -> bool
     ensures { λ b. ⌜ b ≡ noPartIn i ⌝ }
 {
     (input::is_a(Kind::Sample, i) & !(i.who <= 2))
-        | ((input::is_a(Kind::Tach, i) | input::is_a(Kind::Period, i))
+        | ((input::is_a(Kind::Tach, i)
+            | (input::is_a(Kind::Period, i) | input::is_a(Kind::Diode, i)))
             & !((1 <= i.who) & (i.who <= 2)))
 }
 
@@ -103,6 +107,14 @@ fn not_monitoring(s: Standing, i: Input) -> bool
     (input::is_a(Kind::Sample, i) | input::is_a(Kind::Tach, i)) & !s.monitoring
 }
 
+// A sample of a channel whose diode is in error.
+fn broken_diode(s: Standing, i: Input) -> bool
+    ensures { λ b. ⌜ b ≡ brokenDiodeIn s i ⌝ }
+{
+    (input::is_sample(ChannelId::Remote1, i) & s.error1)
+        | (input::is_sample(ChannelId::Remote2, i) & s.error2)
+}
+
 // ---- the reply
 
 // The lowest number that applies.
@@ -127,6 +139,8 @@ pub fn reply(s: Standing, i: Input) -> Answer
         Answer::Refused(Refusal::OddLocal)
     } else if not_monitoring(s, i) {
         Answer::Refused(Refusal::NotMonitoring)
+    } else if broken_diode(s, i) {
+        Answer::Refused(Refusal::BrokenDiode)
     } else {
         Answer::Done(0)
     }

@@ -9,7 +9,7 @@ const BYTE: u32 = 255;
 // Any sample, and the mark of a number that is none.
 const ANY: u16 = 2048;
 
-const ROWS: [PlainRanges; 10] = [
+const ROWS: [PlainRanges; 11] = [
     // power
     PlainRanges {
         low: 44,
@@ -88,6 +88,14 @@ const ROWS: [PlainRanges; 10] = [
         high: 127,
         arg: 0,
         val: 0,
+        sample: ANY,
+    },
+    // diode
+    PlainRanges {
+        low: 1,
+        high: 2,
+        arg: 0,
+        val: 1,
         sample: ANY,
     },
 ];

@@ -91,7 +91,9 @@ pub device-on : {k : Keeper} {d : Device} → k ≡ On d → d ≡ deviceIn k
 device-on p = rw p
 
 pub standing-is : (on : Bool) (c : Chip) {m : Bool} → m ≡ bitOf (c .registers .config1) 0
-    → _≡_ {A = Standing} (record { on = on; address = c .port .address; monitoring = m }) (standingWith on c)
+    → _≡_ {A = Standing}
+    (record { on = on; address = c .port .address; monitoring = m; error1 = c .channels .remote1 .error; error2 = c .channels .remote2 .error })
+    (standingWith on c)
 standing-is on c q = rw q
 
 module _ (k : Keeper) (d : Device) (i : Input) (a : Answer) {n : ℕ} (q : n ≡ numberOf a) where

@@ -79,7 +79,14 @@ chipIn k = deviceIn k .chip
 
 -- what a reply asks of it
 abbrev pub standingWith : (on : Bool) → Chip → Standing
-standingWith on c = record { on = on; address = c .port .address; monitoring = monitors (c .registers .config1) }
+standingWith on c =
+    record {
+      on = on;
+      address = c .port .address;
+      monitoring = monitors (c .registers .config1);
+      error1 = c .channels .remote1 .error;
+      error2 = c .channels .remote2 .error;
+    }
 
 abbrev pub standingOf : Keeper → Standing
 standingOf k = standingWith (isOn k) (chipIn k)

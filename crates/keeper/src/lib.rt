@@ -107,6 +107,8 @@ fn standing(on: bool, c: Chip) -> Standing
         on,
         address: c.port.address,
         monitoring: integer::bit(c.registers.config1, 0),
+        error1: c.channels.remote1.error,
+        error2: c.channels.remote2.error,
     }
 }
 

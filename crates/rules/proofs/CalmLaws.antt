@@ -15,7 +15,7 @@ use Rattle.event.specs.declared.Event.{Event}
 use Rattle.event.specs.declared.Kind.the-variants as kind
 use Rattle.rules.specs.Registers.{config1, speeds, behaviour, controlAt, tachLimitAt, characteristicsAt}
 use Rattle.rules.specs.Events.{restarts}
-use Rattle.rules.specs.Stored.{Taken, counts, storedAt, pinLow}
+use Rattle.rules.specs.Stored.{Taken, counts, storedAt, pinLow, diodeError}
 use Rattle.rules.specs.Temperatures.{temperature, latch, thermAsserted}
 use Rattle.rules.specs.Targets.{flag, demand, target, overridden}
 use Rattle.rules.specs.Duties.{Spin, prior}
@@ -54,7 +54,15 @@ module _ (e : Event) (d : Taken) (no-power : isKind kind.Power e ≡ false) (no-
     unfolding temperature
     temperature-same c = simp (no-power, no-write, no-sample)
 
--- ---- an event that is nothing to a fan but by its kind: its settings, readings, latches, run flags and the pin stay
+-- neither power nor a report on a diode: the errors stay
+abbrev pub ErrorsKept : Event → Taken → Type 0
+ErrorsKept e d = (c : ChannelId) → diodeError c (e ∷ d) ≡ diodeError c d
+
+pub error-same : (e : Event) (d : Taken) → isKind kind.Power e ≡ false → isKind kind.Diode e ≡ false → ErrorsKept e d
+unfolding diodeError
+error-same e d no-power no-diode c = rw (no-power, no-diode)
+
+-- ---- an event that is nothing to a fan but by its kind and by a diode error: its settings, readings, latches, run flags and the pin stay
 
 -- a register that a fan goes by: no count and no offset
 abbrev pub isSetting : ℕ → Bool
@@ -90,13 +98,14 @@ module _ (e : Event) (d : Taken) (u : Untouched e d) where
   control-same Remote1 = u .byte 0x25 refl
   control-same Remote2 = u .byte 0x26 refl
 
-  pub demand-same : (f : FanId) (c : ChannelId) → demand f c (e ∷ d) ≡ demand f c d
+  pub demand-same : (f : FanId) (c : ChannelId) → diodeError c (e ∷ d) ≡ diodeError c d → demand f c (e ∷ d) ≡ demand f c d
   unfolding demand
-  demand-same f c = rw (u .flag c, u .reading c, control-same c, u .byte speeds refl)
+  demand-same f c x = rw (x, u .flag c, u .reading c, control-same c, u .byte speeds refl)
 
-  pub target-same : (f : FanId) → target f (e ∷ d) ≡ target f d
+  pub target-same : ErrorsKept e d → (f : FanId) → target f (e ∷ d) ≡ target f d
   unfolding target
-  target-same f = rw (demand-same f Local, demand-same f Remote1, demand-same f Remote2, u .byte config1 refl, u .byte speeds refl)
+  target-same x f =
+      rw (demand-same f Local (x Local), demand-same f Remote1 (x Remote1), demand-same f Remote2 (x Remote2), u .byte config1 refl, u .byte speeds refl)
 
   pub therm-same : thermAsserted (e ∷ d) ≡ thermAsserted d
   unfolding thermAsserted

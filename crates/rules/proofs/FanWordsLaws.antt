@@ -25,6 +25,7 @@ use Rattle.rules.specs.PageWords.{spinUpFigure, rateFigure, minimumCode,
 use Rattle.rules.specs.PageDuties.{clocksLeft, forced, excess, demanded, toTurn}
 use Rattle.rules.proofs.TakenLaws.{took}
 use Rattle.rules.proofs.StoredLaws.{byte}
+use Rattle.rules.proofs.DiodeLaws.{error-is}
 use Rattle.rules.proofs.SoundLaws.{wanted}
 
 -- ---- a table: what holds of each code below n holds of the code that is looked up
@@ -135,7 +136,7 @@ module _ (h : History) (d : Taken) (is : taken h ≡ d) where
 
   pub demanded-is : (f : FanId) (c : ChannelId) → demanded f c h ≡ demand f c d
   unfolding demand
-  demanded-is f c = rw (control-is, minimum-is, range-is, excess-is, is)
+  demanded-is f c = rw (error-is h c, control-is, minimum-is, range-is, excess-is, is)
 
   pub assigned-is : (f : FanId) (c : ChannelId) → isAssigned f c h ≡ assignedBy (assignment (storedAt config1 d)) f c
   unfolding value byteAt existsAt

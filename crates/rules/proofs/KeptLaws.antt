@@ -18,13 +18,14 @@ use Rattle.rules.specs.Stored.{Taken, counts, storedAt, diodeError, pull
 use Rattle.rules.specs.Temperatures.{temperature, wholeByte, channelOn, highBit, lowBit, thermBit}
 use Rattle.rules.specs.Targets.{flag}
 use Rattle.rules.specs.Duties.{duty, failed, failures, faultBit, atAlarm, alarmBit}
+use Rattle.rules.specs.PageWords.{byFan}
 use Rattle.rules.specs.Shows.{remaindersByte, status, byteAt, value, pending, intDue, raises, silenced, intAsserted, faultAsserted, shown}
-use Rattle.rules.proofs.CalmLaws.{byte-same, Untouched, untouched, override-same, therm-same}
+use Rattle.rules.proofs.CalmLaws.{byte-same, ErrorsKept, Untouched, untouched, override-same, therm-same}
 use Rattle.rules.proofs.RiseLaws.{none-risen}
 use Rattle.rules.proofs.StayLaws.{on-kept, high-kept, low-kept, therm-kept, pulled-kept}
 
 -- what is alike where a test holds, and where it does not
-alike : (t : Bool) {x y z u : ℕ} → (t ≡ true → x ≡ y) → z ≡ u → cond t x z ≡ cond t y u
+pub alike : (t : Bool) {x y z u : ℕ} → (t ≡ true → x ≡ y) → z ≡ u → cond t x z ≡ cond t y u
 alike true p q = p refl
 alike false p q = q
 
@@ -86,13 +87,12 @@ alarm-kept e d u no-read f = alarm-step f e d (u .calm) no-read ∙ rw (at-same,
     at-same : atAlarm f (e ∷ d) ≡ atAlarm f d
     at-same = rw (u .byte config2 refl, override-same e d u)
 
--- an event that leaves every status bit, and the enable bits of the channels
+-- an event that leaves every status bit but those of diode errors, and the enable bits of the channels
 pub record BitsKept (e : Event) (d : Taken) : Type 0 where
   pub on : (c : ChannelId) → channelOn c (e ∷ d) ≡ channelOn c d
   pub high : (c : ChannelId) → highBit c (e ∷ d) ≡ highBit c d
   pub low : (c : ChannelId) → lowBit c (e ∷ d) ≡ lowBit c d
   pub therm : (c : ChannelId) → thermBit c (e ∷ d) ≡ thermBit c d
-  pub error : (c : ChannelId) → diodeError c (e ∷ d) ≡ diodeError c d
   pub pulled : pulledBit (e ∷ d) ≡ pulledBit d
   pub alarm : (f : FanId) → alarmBit f (e ∷ d) ≡ alarmBit f d
   pub fault : (f : FanId) → faultBit f (e ∷ d) ≡ faultBit f d
@@ -107,44 +107,47 @@ bits-kept e d no-power no-write no-read no-sample no-pin fine =
       high = λ c. high-kept e d no-power no-write no-read c (rw no-sample);
       low = λ c. low-kept e d no-power no-write no-read c (rw no-sample);
       therm = λ c. therm-kept e d no-power no-write no-read c (rw no-sample);
-      error = λ c. (unfold diodeError in rw no-power);
       pulled = pulled-kept e d no-power no-write no-read no-pin;
       alarm = alarm-kept e d (untouched e d no-power no-write no-sample no-pin) no-read;
       fault = λ f. (unfold faultBit in rw (fine f, no-power, no-write, no-read));
     }
 
 module _ (e : Event) (d : Taken) (k : BitsKept e d) where
-  status-kept : (f : FanId) → status f (e ∷ d) ≡ status f d
+  pub status-kept : (f : FanId) → diodeError (byFan Remote1 Remote2 f) (e ∷ d) ≡ diodeError (byFan Remote1 Remote2 f) d → status f (e ∷ d) ≡ status f d
   unfolding status
-  status-kept One =
-      rw (k .alarm One, k .fault One, k .high Remote1, k .low Remote1, k .therm Remote1, k .error Remote1, k .high Local, k .low Local)
-  status-kept Two =
-      rw (k .alarm Two, k .fault Two, k .high Remote2, k .low Remote2, k .therm Remote2, k .error Remote2, k .therm Local, k .pulled)
+  status-kept One x =
+      rw (k .alarm One, k .fault One, k .high Remote1, k .low Remote1, k .therm Remote1, x, k .high Local, k .low Local)
+  status-kept Two x =
+      rw (k .alarm Two, k .fault Two, k .high Remote2, k .low Remote2, k .therm Remote2, x, k .therm Local, k .pulled)
+
+module _ (e : Event) (d : Taken) (k : BitsKept e d) (x : ErrorsKept e d) where
+  status-same : (f : FanId) → status f (e ∷ d) ≡ status f d
+  status-same f = status-kept e d k f (x (byFan Remote1 Remote2 f))
 
   -- what is pending for INT
   pending-kept : (f : FanId) → pending f (e ∷ d) ≡ pending f d
   unfolding pending
   pending-kept One =
-      rw (k .alarm One, k .fault One, k .high Remote1, k .low Remote1, k .therm Remote1, k .error Remote1, k .on Remote1, k .high Local, k .low Local)
+      rw (k .alarm One, k .fault One, k .high Remote1, k .low Remote1, k .therm Remote1, x Remote1, k .on Remote1, k .high Local, k .low Local)
   pending-kept Two =
-      rw (k .alarm Two, k .fault Two, k .high Remote2, k .low Remote2, k .therm Remote2, k .error Remote2, k .on Remote2, k .therm Local, k .pulled)
+      rw (k .alarm Two, k .fault Two, k .high Remote2, k .low Remote2, k .therm Remote2, x Remote2, k .on Remote2, k .therm Local, k .pulled)
 
   pub raises-none : raises e d ≡ false
-  raises-none = rw (status-kept One, status-kept Two, none-risen (status One d) _ (λ k l z. z), none-risen (status Two d) _ (λ k l z. z))
+  raises-none = rw (status-same One, status-same Two, none-risen (status One d) _ (λ k l z. z), none-risen (status Two d) _ (λ k l z. z))
 
   module _ (u : Untouched e d) where
     pub due-kept : intDue (e ∷ d) ≡ intDue d
     unfolding intDue
     due-kept = rw (u .byte config1 refl, pending-kept One, pending-kept Two)
 
-    silence-kept : isKind kind.Alert e ≡ false → silenced (e ∷ d) ≡ silenced d
+    pub silence-kept : isKind kind.Alert e ≡ false → silenced (e ∷ d) ≡ silenced d
     unfolding silenced
     silence-kept no-alert = rw (u .calm, raises-none, no-alert) (by-cases (silenced d) (λ s. rw s) (λ s. rw s))
 
     -- every register whose byte stays
     pub value-kept : (a : ℕ) → storedAt a (e ∷ d) ≡ storedAt a d → value a (e ∷ d) ≡ value a d
     unfolding value byteAt
-    value-kept a q = rw (status-kept One, status-kept Two, u .reading Local, u .reading Remote1, u .reading Remote2, q)
+    value-kept a q = rw (status-same One, status-same Two, u .reading Local, u .reading Remote1, u .reading Remote2, q)
 
     -- and every output, where duties and runs stay
     pub shown-kept :

@@ -3,6 +3,8 @@ pub mod EventLaws
 pub mod TakenLaws
 pub mod StoredLaws
 pub mod ReplyWords
+pub mod StatusLaws
+pub mod DiodeLaws
 pub mod ReplyLaws
 pub mod PowerLaws
 pub mod QuietLaws
@@ -11,7 +13,6 @@ pub mod ImageLaws
 pub mod PageRepliesLaws
 pub mod OffsetLaws
 pub mod ReadingLaws
-pub mod StatusLaws
 pub mod CalmLaws
 pub mod StayLaws
 pub mod ChannelLaws
@@ -30,14 +31,18 @@ pub mod PageTachLaws
 pub mod PageStaysLaws
 pub mod OffsetWriteLaws
 pub mod PageOffsetsLaws
+pub mod ReasonLaws
+pub mod IdleLaws
+pub mod ReportLaws
 pub mod AlertLaws
 pub mod IntLaws
 pub mod SilenceLaws
 pub mod PageAlertsLaws
 pub mod AlertRowLaws
 pub mod PageAlertRowLaws
-pub mod ReasonLaws
 pub mod ReasonPlaceLaws
 pub mod ReasonFactLaws
 pub mod PageReasonsLaws
+pub mod BrokenLaws
+pub mod PageDiodesLaws
 pub mod PageLaws

@@ -13,7 +13,7 @@ use Rattle.part.specs.declared.ChannelId.the-variants.{Local, Remote1, Remote2}
 use Rattle.part.specs.declared.FanId.{FanId}
 use Rattle.event.specs.declared.Event.{Event}
 use Rattle.rules.specs.Registers.{config2}
-use Rattle.rules.specs.Stored.{Taken, storedAt, pinLow, diodeError}
+use Rattle.rules.specs.Stored.{Taken, storedAt, pinLow}
 use Rattle.rules.specs.Temperatures.{channelOn}
 use Rattle.rules.specs.Duties.{tachOn, left, spin, duty, failures}
 use Rattle.rules.specs.Shows.{value, shown}
@@ -21,7 +21,7 @@ use Rattle.rules.specs.PageWords.{byChannel}
 use Rattle.rules.specs.PageOffsets.{offsetWritten}
 use Rattle.rules.proofs.WriteLaws.{stored-elsewhere}
 use Rattle.rules.proofs.StatusLaws.{high-off, low-off, therm-off}
-use Rattle.rules.proofs.CalmLaws.{isSetting, Untouched}
+use Rattle.rules.proofs.CalmLaws.{ErrorsKept, error-same, isSetting, Untouched}
 use Rattle.rules.proofs.OrdinaryLaws.{reading-left, flag-left, latch-left, high-masked, low-masked, therm-masked, fault-left, pulled-left, run-left}
 use Rattle.rules.proofs.TachLaws.{untracked}
 use Rattle.rules.proofs.KeptLaws.{alarm-kept, BitsKept, value-kept, shown-kept}
@@ -80,18 +80,20 @@ module _ (d : Taken) (c : ChannelId) (w : ℤ) (b : ℕ) where
         high = λ x. high-masked d w (at c) b (no-reset c b) x ∙ rw (on-same x) (kept (channelOn x d) _ (high-off x d));
         low = λ x. low-masked d w (at c) b (no-reset c b) x ∙ rw (on-same x) (kept (channelOn x d) _ (low-off x d));
         therm = λ x. therm-masked d w (at c) b (no-reset c b) x ∙ rw (on-same x) (kept (channelOn x d) _ (therm-off x d));
-        error = λ x. (unfold diodeError in refl);
         pulled = pulled-left d w (at c) b (no-reset c b);
         alarm = alarm-kept e d settled refl;
         fault = fault-left d w (at c) b (no-reset c b);
       }
 
+  pub errors : ErrorsKept e d
+  errors = error-same e d refl refl
+
   duty-left : (f : FanId) → duty f (e ∷ d) ≡ duty f d
   unfolding duty
-  duty-left f = turn.duty-same f e d settled refl refl refl
+  duty-left f = turn.duty-same f e d (turn.aimed-as-before f e d settled errors) refl refl refl
 
   pub clocks-left : (f : FanId) → left (spin f (e ∷ d)) ≡ left (spin f d)
-  clocks-left f = turn.left-kept f e d settled refl refl refl
+  clocks-left f = turn.left-kept f e d (turn.aimed-as-before f e d settled errors) refl refl refl
 
   pub run-same : (f : FanId) → failures f (e ∷ d) ≡ failures f d
   run-same f =
@@ -101,7 +103,7 @@ module _ (d : Taken) (c : ChannelId) (w : ℤ) (b : ℕ) where
       (λ n. untracked f (e ∷ d) (on ∙ n) ∙ sym (untracked f d n))
 
   pub value-same : (a : ℕ) → eqb a (at c) ≡ false → value a (e ∷ d) ≡ value a d
-  value-same a q = value-kept e d bits settled a (stored-same a q)
+  value-same a q = value-kept e d bits errors settled a (stored-same a q)
 
   pub shown-same : shown (e ∷ d) ≡ shown d
-  shown-same = shown-kept e d bits settled refl run-same duty-left
+  shown-same = shown-kept e d bits errors settled refl run-same duty-left

@@ -17,6 +17,7 @@ use Rattle.rules.specs.PageAlerts.{due, alerted, FollowsStatus, PageAler
 use Rattle.rules.proofs.TakenLaws.{accepted-is}
 use Rattle.rules.proofs.CalmLaws.{therm-same}
 use Rattle.rules.proofs.FanWordsLaws.{duty-is}
+use Rattle.rules.proofs.IdleLaws as idle
 use Rattle.rules.proofs.AlertLaws as alert
 use Rattle.rules.proofs.IntLaws.{due-is, int-is}
 use Rattle.rules.proofs.SilenceLaws.{alert-out, raised-free, restart-free, stays-silent, stays-free}
@@ -51,6 +52,10 @@ module _ (h : History) (w : ℤ) (go : Accepted (alerted w) h) where
       (λ y. rw (y, or-true (silenced d)))
       (λ n. let zero : out h .int ≡ 0 = int-is h ∙ rw (due-is h, n) in absurd (omega (arith, zero, one))))
 
+-- it is of none of document 01's kinds
+not-01 : (d : Taken) (w : ℤ) → idle.Another (alerted w)
+not-01 d w = alert.is-not (alerted w) d refl
+
 pub page-alerts : (h : History) → PageAlerts h
 unfolding shown faultAsserted pinLow
 page-alerts h =
@@ -62,22 +67,25 @@ page-alerts h =
       raised = λ e f k go l p q. follows (e ∷ h) (raised-free e h go f k l p q);
       powered = λ w a v go. follows (power w a v ∷ h) (restart-free (power w a v) h go refl);
       restarted = λ w b go seven. follows (reset w b ∷ h) (restart-free (reset w b) h go (rw seven));
-      registers = λ w a go. rw (accepted-is (alerted w) h go) (alert.value-same (alerted w) d refl a);
+      registers = λ w a go. rw (accepted-is (alerted w) h go) (idle.value-same (alerted w) d (not-01 d w) (alert.errors (alerted w) d refl) a);
       duties = λ w f go.
-          duty-is (alerted w ∷ h) (alerted w ∷ d) (accepted-is (alerted w) h go) f ∙ (alert.duty-same (alerted w) d refl f ∙ sym (duty-is h d refl f));
+          duty-is (alerted w ∷ h) (alerted w ∷ d) (accepted-is (alerted w) h go) f ∙
+          (idle.duty-same (alerted w) d (not-01 d w) (alert.errors (alerted w) d refl) f
+          ∙ sym (duty-is h d refl f));
       outputs = λ w go.
-          let u = alert.settled (alerted w) d refl in
+          let u = idle.settled (alerted w) d (not-01 d w) in
           rw (
             accepted-is (alerted w) h go,
             therm-same (alerted w) d u,
             u .byte config1 refl,
-            alert.run-same (alerted w) d refl One,
-            alert.run-same (alerted w) d refl Two,
+            idle.run-same (alerted w) d (not-01 d w) One,
+            idle.run-same (alerted w) d (not-01 d w) Two,
           )
           (refl, refl);
       channels = λ w c go.
-          let u = alert.settled (alerted w) d refl in
+          let u = idle.settled (alerted w) d (not-01 d w) in
           rw (accepted-is (alerted w) h go) (u .latch c, u .flag c, u .reading c);
-      fans = λ w f go. rw (accepted-is (alerted w) h go) (alert.left-same (alerted w) d refl f, alert.run-same (alerted w) d refl f);
-      level = λ w go. rw (accepted-is (alerted w) h go) (alert.settled (alerted w) d refl .pin);
+      fans = λ w f go. rw (accepted-is (alerted w) h go)
+          (idle.left-same (alerted w) d (not-01 d w) (alert.errors (alerted w) d refl) f, idle.run-same (alerted w) d (not-01 d w) f);
+      level = λ w go. rw (accepted-is (alerted w) h go) (idle.settled (alerted w) d (not-01 d w) .pin);
     }

@@ -6,7 +6,7 @@ use mathlib.Core.List.{_∷_}
 use native.Mathlib.Omega.{arith}
 use lib.Dec.{eqb}
 use lib.IntN.{ℤ, pos}
-use Rattle.integer.proofs.BoolLaws.{by-cases}
+use Rattle.integer.proofs.BoolLaws.{by-cases, either}
 use Rattle.integer.specs.Bits.{flagOf}
 use Rattle.part.specs.declared.ChannelId.{ChannelId}
 use Rattle.part.specs.declared.ChannelId.the-variants.{Local, Remote1, Remote2}
@@ -18,7 +18,7 @@ use Rattle.event.specs.declared.Kind.the-variants as kind
 use Rattle.rules.specs.Registers.{config1, speeds, controlAt, existsAt}
 use Rattle.rules.specs.Fields.{assignment, automatic, speedCode}
 use Rattle.rules.specs.Events.{periods, restarts}
-use Rattle.rules.specs.Stored.{Taken, storedAt, pinLow}
+use Rattle.rules.specs.Stored.{Taken, storedAt, pinLow, diodeError}
 use Rattle.rules.specs.Replies.{History, taken}
 use Rattle.rules.specs.Offsets.{measured}
 use Rattle.rules.specs.Temperatures.{hysteresis}
@@ -32,10 +32,10 @@ use Rattle.rules.proofs.TakenLaws.{accepted-is}
 use Rattle.rules.proofs.OffsetLaws.{figure-is}
 use Rattle.rules.proofs.FanWordsLaws.{duty-is, left-is, alarm-is, spin-up-is, rate-is, minimum-is, control-is, demanded-is, assigned-is, enabled-by}
 use Rattle.rules.proofs.FanWordsLaws.{filtered-by, turning-by, wanted-by, alarmed-by}
-use Rattle.rules.proofs.CalmLaws.{no-restart, flag-same, untouched}
+use Rattle.rules.proofs.CalmLaws.{no-restart, flag-same}
 use Rattle.rules.proofs.OrdinaryLaws.{flag-left}
 use Rattle.rules.proofs.SoundLaws.{nearer-is, sound}
-use Rattle.rules.proofs.TurnLaws.{fresh-start, left-step, free-step, filter-step, turns-on}
+use Rattle.rules.proofs.TurnLaws.{fresh-start, left-step, free-step, aim-by-kind, filter-step, turns-on}
 
 -- ---- 1: run flags
 
@@ -66,6 +66,11 @@ module _ (f : FanId) (d : Taken) (auto : automatic (storedAt config1 d) ≡ true
       counts : (c : ChannelId) → demandIf (given c) (demand f c d) ≤ bound
       counts c = by-cases (given c) (λ y. rw y (all c y)) (λ n. rw n (omega arith))
 
+-- no demand is above 240 slots
+pub demand-small : (f : FanId) (c : ChannelId) (d : Taken) → demand f c d ≤ 240
+unfolding demand
+demand-small f c d = either (λ x. x ≤ 240) (diodeError c d) (omega arith) (either (λ x. x ≤ 240) (flag c d) (omega arith) (omega arith))
+
 set-by-hand : (f : FanId) (d : Taken) → automatic (storedAt config1 d) ≡ false → target f d ≡ 16 * speedCode f (storedAt speeds d)
 unfolding target targetOf
 set-by-hand f d off = rw off
@@ -91,8 +96,8 @@ module _ (f : FanId) (e : Event) (d : Taken) where
 turned-step :
     (f g : FanId) (d : Taken) → enabled f d ≡ true → overridden d ≡ false → 0 < target f d → left (spin f (turned g ∷ d)) ≡ 0 → filtered f d ≡ true →
     spin f (turned g ∷ d) .duty ≡ cond (periods f (turned g)) (nearer (rate d) (target f d) (spin f d .duty)) (spin f d .duty)
-turned-step f One d = filter-step f (turned One) d (untouched (turned One) d refl refl refl refl)
-turned-step f Two d = filter-step f (turned Two) d (untouched (turned Two) d refl refl refl refl)
+turned-step f One d = filter-step f (turned One) d (aim-by-kind f (turned One) d refl refl refl refl refl)
+turned-step f Two d = filter-step f (turned Two) d (aim-by-kind f (turned Two) d refl refl refl refl refl)
 
 own-period : (f : FanId) → periods f (turned f) ≡ true
 own-period One = refl
@@ -170,7 +175,7 @@ page-duties h =
           ∙ (fresh-start f e d (wanted-by (e ∷ h) (e ∷ d) q f y) (sym (duty-now h f) ∙ z) ∙ sym (spin-up-is (e ∷ h) (e ∷ d) q f));
       ticks = λ f go on. let was = turning-by h d refl f on in
           left-is (tenth ∷ h) (tenth ∷ d) (accepted-is tenth h go) f
-          ∙ left-step f tenth d refl refl was (turns-on f tenth d (untouched tenth d refl refl refl refl) was);
+          ∙ left-step f tenth d refl refl was (turns-on f tenth d (aim-by-kind f tenth d refl refl refl refl refl) was);
       waits = λ f e go no-clock no-tach no-power no-write was on. let q = accepted-is e h go in
           left-is (e ∷ h) (e ∷ d) q f
           ∙ (left-step f e d (no-restart e d no-power no-write) (rw no-tach) (turning-by h d refl f was) (turning-by (e ∷ h) (e ∷ d) q f on)

@@ -10,6 +10,7 @@ use Rattle.rules.proofs.PageOffsetsLaws.{page-offsets}
 use Rattle.rules.proofs.PageAlertsLaws.{page-alerts}
 use Rattle.rules.proofs.PageAlertRowLaws.{page-alert-row}
 use Rattle.rules.proofs.PageReasonsLaws.{page-reasons}
+use Rattle.rules.proofs.PageDiodesLaws.{page-diodes}
 
 pub page : (h : History) → Page h
 page h =
@@ -23,4 +24,5 @@ page h =
       alerts = page-alerts h;
       alertRow = page-alert-row;
       reasons = page-reasons h;
+      diodes = page-diodes h;
     }

@@ -125,10 +125,11 @@ page-offsets h =
       channelLeft = λ c x w b go. let u = written.settled d c w b in
           rw (accepted-is (offsetWritten c w b) h go) (u .reading x, u .latch x, u .flag x);
       demandLeft = λ c x f w b go. let e = offsetWritten c w b in
-          demanded-is (e ∷ h) (e ∷ d) (accepted-is e h go) f x ∙ (demand-same e d (written.settled d c w b) f x ∙ sym (demanded-is h d refl f x));
+          demanded-is (e ∷ h) (e ∷ d) (accepted-is e h go) f x
+          ∙ (demand-same e d (written.settled d c w b) f x (written.errors d c w b x) ∙ sym (demanded-is h d refl f x));
       fanLeft = λ c f w b go. let e = offsetWritten c w b in
           rw (accepted-is e h go)
-          (target-same e d (written.settled d c w b) f, written.clocks-left d c w b f, written.run-same d c w b f);
+          (target-same e d (written.settled d c w b) (written.errors d c w b) f, written.clocks-left d c w b f, written.run-same d c w b f);
       zeroByPower = λ c w x y go. (
         sym (reads-back (took (power w x y ∷ h)) c) ∙ page-stays h .unreadAfterPower c w x y go,
         rw (accepted-is (power w x y) h go) (power-zero d c w x y),

@@ -21,7 +21,7 @@ use Rattle.rules.specs.Replies.{History, taken}
 use Rattle.rules.specs.Targets.{target, overridden}
 use Rattle.rules.specs.Duties.{left, spin, duty}
 use Rattle.rules.specs.Reasons.{reasonNumber, whyNumber, lowestWith, reasonFor, whyFor}
-use Rattle.rules.specs.PageWords.{register, dutyOut}
+use Rattle.rules.specs.PageWords.{register, dutyOut, errorStatus}
 use Rattle.rules.specs.PageReplies.{same, oneOf}
 use Rattle.rules.specs.PageDuties.{running, demanded}
 use Rattle.rules.specs.PageReasons.{inOrder, toldOf, dutyBy, PageReasons}
@@ -38,13 +38,15 @@ use Rattle.rules.proofs.ReasonFactLaws.{holds, earlier, only}
 -- ---- the reason, its numbers and the registers give the duty
 
 module _ (h : History) (f : FanId) where
-  -- a demand above 0 is that of the formula, whose reading comes back from the registers
+  -- a demand above 0 is 240 for a diode in error, and else that of the formula, whose reading comes back from the registers
   demand-back : (c : ChannelId) → 0 < demanded f c h → dutyBy f (reason.Demand c) (λ a. register a h) ≡ demanded f c h
   unfolding dutyBy
   demand-back c up =
-      by-cases (running c h)
-      (λ y. rw (y, ← reads-back (took h) c))
-      (λ n. absurd (omega (arith, rw n at up)))
+      by-cases (errorStatus c h)
+      (λ x. rw x)
+      (λ x. by-cases (running c h)
+      (λ y. rw (x, y, ← reads-back (took h) c))
+      (λ n. absurd (omega (arith, rw (x, n) at up))))
 
   from-demand : firstOf (tests h f) ≡ 8 → dutyBy f (last h f) (λ a. register a h) ≡ dutyOut f h
   from-demand e =

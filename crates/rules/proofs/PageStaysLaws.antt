@@ -35,7 +35,7 @@ use Rattle.rules.proofs.ReadingLaws.{last-reading, rest-same}
 use Rattle.rules.proofs.StatusLaws.{high-shown, low-shown, therm-shown, pulled-shown}
 use Rattle.rules.proofs.StayLaws.{another, sampled-kind}
 use Rattle.rules.proofs.FanWordsLaws.{duty-is, left-is, tach-is, limit-is, alarm-is, fault-is, alarmed-by}
-use Rattle.rules.proofs.CalmLaws.{no-restart, byte-same, untouched}
+use Rattle.rules.proofs.CalmLaws.{no-restart, byte-same, error-same, untouched}
 use Rattle.rules.proofs.KeptLaws.{flag-kept, reading-kept, register-kept, alarm-step, BitsKept, bits-kept, value-kept}
 use Rattle.rules.proofs.OrdinaryLaws.{reading-left, high-masked, low-masked, therm-masked, fault-left, pulled-left, run-left, reset-image}
 use Rattle.rules.proofs.TachLaws as tach
@@ -56,7 +56,8 @@ quiet place = eqb place 2 || (eqb place 7 || eqb place 8)
 idle-kept : (e : Event) (d : Taken) (a : ℕ) → quiet (placeOf (kindOf e)) ≡ true → value a (e ∷ d) ≡ value a d
 unfolding failed
 idle-kept e d a y =
-    value-kept e d bits (untouched e d (is-not kind.Power refl) (is-not kind.Write refl) (is-not kind.Sample refl) (is-not kind.Pin refl)) a
+    value-kept e d bits (error-same e d (is-not kind.Power refl) (is-not kind.Diode refl))
+    (untouched e d (is-not kind.Power refl) (is-not kind.Write refl) (is-not kind.Sample refl) (is-not kind.Pin refl)) a
     (byte-same e d (is-not kind.Power refl) (is-not kind.Write refl) a (uncounted a e (is-not kind.Tach refl)))
   where
     is-not : (k : Kind) → quiet (placeOf k) ≡ false → isKind k e ≡ false

@@ -26,10 +26,12 @@ use Rattle.rules.proofs.QuietLaws.{uncounted, shows-alike}
 use Rattle.rules.proofs.OffsetLaws.{figure-is}
 use Rattle.rules.proofs.ReadingLaws.{eighths, last-reading, reads-back}
 use Rattle.rules.proofs.StatusLaws.{high-shown, low-shown, therm-shown, error-shown, pulled-shown, high-off, low-off, therm-off, clears, keeps}
+use Rattle.rules.proofs.CalmLaws.{error-same}
 use Rattle.rules.proofs.StayLaws.{high-kept, low-kept, therm-kept, pulled-kept, sampled-kind, another}
 use Rattle.rules.proofs.ChannelLaws as channel
 use Rattle.rules.proofs.OrdinaryLaws.{latch-left}
-use Rattle.rules.proofs.ResetLaws.{reset-keeps, reset-latch, reset-flag, reset-run, reset-as-power, outputs-alike, low-byte, low-spin}
+use Rattle.rules.proofs.PowerLaws.{restart-latch, restart-flag, restart-run}
+use Rattle.rules.proofs.ResetLaws.{reset-keeps, afresh, reset-as-power, outputs-alike, low-byte, low-spin}
 
 module _ (d : Taken) where
   -- a read leaves every register but the status bytes
@@ -51,9 +53,10 @@ module _ (d : Taken) where
   error-after w a b One = error-shown (power w (pos a) (pos b) ∷ d) One
   error-after w a b Two = error-shown (power w (pos a) (pos b) ∷ d) Two
 
-  error-stays : (f : FanId) (e : Event) → isKind kind.Power e ≡ false → bitOf (value (byFan 0x02 0x03 f) (e ∷ d)) 5 ≡ bitOf (value (byFan 0x02 0x03 f) d) 5
-  unfolding diodeError
-  error-stays f e p = rw (error-shown (e ∷ d) f, error-shown d f, p)
+  error-stays :
+      (f : FanId) (e : Event) → isKind kind.Power e ≡ false → isKind kind.Diode e ≡ false →
+      bitOf (value (byFan 0x02 0x03 f) (e ∷ d)) 5 ≡ bitOf (value (byFan 0x02 0x03 f) d) 5
+  error-stays f e p r = error-shown (e ∷ d) f ∙ (error-same e d p r (byFan Remote1 Remote2 f) ∙ sym (error-shown d f))
 
   -- ---- the pin
 
@@ -120,7 +123,7 @@ page-temperatures h =
       clears = λ w f go p. rw (accepted-is (read w (pos 0) (pos 0)) h go) (clears (taken h) w f p);
       keeps = λ w f go p. rw (accepted-is (read w (pos 0) (pos 0)) h go) (keeps (taken h) w f p);
       errors = λ w a b go. rw (accepted-is (power w (pos a) (pos b)) h go) (error-after (taken h) w a b One, error-after (taken h) w a b Two);
-      errorsStay = λ e go p. rw (accepted-is e h go) (error-stays (taken h) One e p, error-stays (taken h) Two e p);
+      errorsStay = λ e go p r. rw (accepted-is e h go) (error-stays (taken h) One e p r, error-stays (taken h) Two e p r);
       level = (λ go. rw (accepted-is pulledLow h go), λ go. rw (accepted-is letGo h go));
       levelStays = λ e go n p. rw (accepted-is e h go, n, p);
       pulledFirst = λ go q. rw (accepted-is pulledLow h go) (pulled-first (taken h) q);
@@ -135,7 +138,10 @@ page-temperatures h =
           rw (accepted-is (reset w b) h go, accepted-is (power (pos own) (pos x) (pos y)) h on)
           (outputs-alike (taken h) w b seven high x y own one two, reset-as-power (taken h) w b seven high x y own one two);
       resetStops = λ w b c f go y.
-          rw (accepted-is (reset w b) h go)
-          (reset-latch (taken h) w b y c, reset-flag (taken h) w b y c, reset-run (taken h) w b y f);
+          rw (accepted-is (reset w b) h go) (
+            restart-latch (reset w b) (taken h) (afresh (taken h) w b y) c,
+            restart-flag (reset w b) (taken h) (afresh (taken h) w b y) c,
+            restart-run (reset w b) (taken h) (afresh (taken h) w b y) f,
+          );
       resetLow = λ w b f go y low. rw (accepted-is (reset w b) h go) (low-byte (taken h) w b y low f, low-spin (taken h) w b y low f);
     }

@@ -6,6 +6,7 @@ use mathlib.Core.List.{[], _∷_}
 use lib.IntN.{ℤ, pos, negsuc}
 use borrow.Author.Tests.{eqb-true}
 use Rattle.integer.proofs.BoolLaws.{by-cases}
+use Rattle.part.specs.declared.FanId.the-variants.{One, Two}
 use Rattle.event.specs.Answers.{numberOf, refusalNumber}
 use Rattle.event.specs.declared.Answer.{Answer}
 use Rattle.event.specs.declared.Answer.the-variants.{Done, Refused}
@@ -16,9 +17,10 @@ use Rattle.rules.specs.Events.{rangesOf, lies, upTo}
 use Rattle.rules.specs.Stored.{powered, ownAddress}
 use Rattle.rules.specs.Replies.{History, taken, accepts, replyTo, lowest}
 use Rattle.rules.specs.Shows.{value, byteAt, answer}
-use Rattle.rules.specs.PageWords.{replyNumber, power, write, point, read, sample, tach, pin, clock, period, alert}
-use Rattle.rules.specs.PageReplies.{first, oneOf, between, isZero, registers, readOnlyRegisters, badRange, odd, ours, monitored, powerOn}
+use Rattle.rules.specs.PageWords.{replyNumber, power, write, point, read, sample, tach, pin, clock, period, alert, diode}
+use Rattle.rules.specs.PageReplies.{first, oneOf, between, isZero, registers, readOnlyRegisters, badRange, odd, ours, monitored, broken, powerOn}
 use Rattle.rules.proofs.TakenLaws.{took, own-small}
+use Rattle.rules.proofs.StatusLaws.{error-shown}
 use Rattle.rules.proofs.ReplyWords.{same-is, zero-is, within-is, register-is, read-only-is, control-is, bad-range-is, odd-is, own-fits, register-fits}
 
 -- ---- the number of a reply
@@ -95,12 +97,14 @@ module _ (h : History) (w a v : ℤ) where
   pub samples :
       replyNumber (sample w a v) h
       ≡ first (not (powerOn h)) 1 (first (not (between (pos 0) (pos 2) w)) 3
-      (first (not (isZero a && between (negsuc 1023) (pos 1023) v)) 6 (first (isZero w && odd v) 8 (first (not (monitored h)) 9 0))))
+      (first (not (isZero a && between (negsuc 1023) (pos 1023) v)) 6 (first (isZero w && odd v) 8 (first (not (monitored h)) 9
+      (first (broken w h) 13 0)))))
   unfolding replyTo lowest rangesOf value byteAt existsAt
   samples =
       number-is (sample w a v) h
       ∙ simp (pushed, and-true)
-      (rw (within-is 0 2 w, same-is w 0, odd-is v) (by-cases (between (pos 0) (pos 2) w) (λ o. rw (o, zero-is a)) (λ o. rw o)))
+      (rw (within-is 0 2 w, same-is w 0, same-is w 1, same-is w 2, odd-is v, error-shown (taken h) One, error-shown (taken h) Two)
+      (by-cases (between (pos 0) (pos 2) w) (λ o. rw (o, zero-is a)) (λ o. rw o)))
 
   pub tachs :
       replyNumber (tach w a v) h
@@ -124,3 +128,11 @@ module _ (h : History) (w a v : ℤ) where
   periods =
       number-is (period w a v) h
       ∙ simp (pushed, and-true) (rw (within-is 1 2 w) (by-cases (between (pos 1) (pos 2) w) (λ o. rw (o, zero-is a, zero-is v)) (λ o. rw o)))
+
+  pub diodes :
+      replyNumber (diode w a v) h
+      ≡ first (not (powerOn h)) 1 (first (not (between (pos 1) (pos 2) w)) 3 (first (not (isZero a && between (pos 0) (pos 1) v)) 6 0))
+  unfolding replyTo lowest rangesOf
+  diodes =
+      number-is (diode w a v) h
+      ∙ simp (pushed, and-true) (rw (within-is 1 2 w) (by-cases (between (pos 1) (pos 2) w) (λ o. rw (o, zero-is a)) (λ o. rw o)))

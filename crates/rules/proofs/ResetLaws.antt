@@ -1,24 +1,24 @@
 -- The software reset: what it keeps, and that it leaves what power leaves. Assumes nothing.
 use Prim.Native.Nat.{ℕ, _+_, _*_, _/_, _%_}
 use mathlib.Core.Path.{_≡_, refl, sym, _∙_}
-use mathlib.Core.Bool.{true, false}
+use mathlib.Core.Bool.{true, false, or-true}
 use mathlib.Core.List.{_∷_}
 use lib.Dec.{eqb}
 use lib.IntN.{ℤ, pos}
 use Rattle.integer.specs.Bits.{bitOf, packed}
-use Rattle.part.specs.declared.ChannelId.{ChannelId}
-use Rattle.part.specs.declared.ChannelId.the-variants.{Local, Remote1, Remote2}
+use Rattle.part.specs.declared.ChannelId.the-variants.{Remote1, Remote2}
 use Rattle.part.specs.declared.FanId.{FanId}
 use Rattle.part.specs.declared.FanId.the-variants.{One, Two}
 use Rattle.rules.specs.Registers.{resetAt, existsAt}
+use Rattle.rules.specs.Events.{restarts}
 use Rattle.rules.specs.Stored.{Taken, storedAt, pointer, pinLow, ownAddress, diodeError, pulledBit}
 use Rattle.rules.specs.Temperatures.{temperature, latch, thermAsserted, highBit, lowBit, thermBit}
-use Rattle.rules.specs.Targets.{flag, demand, assignedBy, targetOf, target, overridden}
-use Rattle.rules.specs.Duties.{spinUpOf, left, dutyAfter, spinAfter, spin, duty, judged, failed, failures, faultBit, atAlarm, alarmBit}
-use Rattle.rules.specs.Shows.{status, byteAt, value, intDue, intAsserted, faultAsserted, shown}
+use Rattle.rules.specs.Targets.{overridden}
+use Rattle.rules.specs.Duties.{spinUpOf, left, dutyAfter, spinAfter, spin, failed, faultBit, atAlarm, alarmBit}
+use Rattle.rules.specs.Shows.{status, byteAt, value, shown}
 use Rattle.rules.specs.PageWords.{power, byFan}
 use Rattle.rules.specs.PageTemperatures.{reset}
-use Rattle.rules.proofs.PowerLaws.{dark, power-shown}
+use Rattle.rules.proofs.PowerLaws.{restart-shown, power-free}
 use Rattle.rules.proofs.StatusLaws.{error-shown, fifth}
 
 module _ (d : Taken) (w : ℤ) (b : ℕ) where
@@ -27,23 +27,8 @@ module _ (d : Taken) (w : ℤ) (b : ℕ) where
   reset-keeps = (refl, refl, refl)
 
 module _ (d : Taken) (w : ℤ) (b : ℕ) (seven : bitOf b 7 ≡ true) where
-  pub reset-latch : (c : ChannelId) → latch c (reset w b ∷ d) ≡ false
-  unfolding latch
-  reset-latch c = rw seven
-
-  pub reset-flag : (c : ChannelId) → flag c (reset w b ∷ d) ≡ false
-  unfolding flag
-  reset-flag c = rw seven
-
-  pub reset-run : (f : FanId) → failures f (reset w b ∷ d) ≡ 0
-  unfolding failures failed judged storedAt resetAt
-  reset-run One = rw seven
-  reset-run Two = rw seven
-
-  reset-target : (f : FanId) → target f (reset w b ∷ d) ≡ 0
-  unfolding target targetOf assignedBy demand flag storedAt resetAt
-  reset-target One = rw seven
-  reset-target Two = rw seven
+  pub afresh : restarts (reset w b) ≡ true
+  afresh = rw seven
 
   -- ---- the pin is high
 
@@ -51,15 +36,6 @@ module _ (d : Taken) (w : ℤ) (b : ℕ) (seven : bitOf b 7 ≡ true) where
     reset-calm : overridden (reset w b ∷ d) ≡ false
     unfolding overridden thermAsserted latch pinLow storedAt resetAt
     reset-calm = rw (high, seven)
-
-    reset-spin : (f : FanId) → spin f (reset w b ∷ d) .duty ≡ 0
-    unfolding spin spinAfter dutyAfter storedAt resetAt
-    reset-spin One = rw (seven, reset-target One, reset-calm)
-    reset-spin Two = rw (seven, reset-target Two, reset-calm)
-
-    reset-shown : shown (reset w b ∷ d) ≡ dark
-    unfolding shown intAsserted intDue faultAsserted thermAsserted storedAt resetAt duty
-    reset-shown = rw (reset-spin One, reset-spin Two, reset-run One, reset-run Two, reset-latch Local, reset-latch Remote1, reset-latch Remote2, seven)
 
     module _ (x y own : ℕ) (p : diodeError Remote1 d ≡ eqb x 1) (q : diodeError Remote2 d ≡ eqb y 1) where
       status-alike : (f : FanId) → status f (reset w b ∷ d) ≡ status f (power (pos own) (pos x) (pos y) ∷ d)
@@ -72,7 +48,10 @@ module _ (d : Taken) (w : ℤ) (b : ℕ) (seven : bitOf b 7 ≡ true) where
       reset-as-power a = rw (status-alike One, status-alike Two, seven)
 
       pub outputs-alike : shown (reset w b ∷ d) ≡ shown (power (pos own) (pos x) (pos y) ∷ d)
-      outputs-alike = reset-shown ∙ sym (power-shown d (pos own) (pos x) (pos y))
+      unfolding diodeError
+      outputs-alike =
+          restart-shown (reset w b) d afresh reset-calm
+          ∙ (rw (p, q) refl ∙ sym (restart-shown (power (pos own) (pos x) (pos y)) d refl (power-free d (pos own) (pos x) (pos y))))
 
   -- ---- the pin is low
 
@@ -90,5 +69,5 @@ module _ (d : Taken) (w : ℤ) (b : ℕ) (seven : bitOf b 7 ≡ true) where
 
     pub low-spin : (f : FanId) → left (spin f (reset w b ∷ d)) ≡ 20
     unfolding spin spinAfter dutyAfter spinUpOf overridden pinLow storedAt resetAt
-    low-spin One = rw (reset-target One, seven, low)
-    low-spin Two = rw (reset-target Two, seven, low)
+    low-spin One = rw (seven, low, or-true)
+    low-spin Two = rw (seven, low, or-true)

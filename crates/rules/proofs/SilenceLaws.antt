@@ -16,7 +16,8 @@ use Rattle.rules.specs.PageWords.{Accepted, out}
 use Rattle.rules.specs.PageAlerts.{statusBit, Quiet, AllQuiet, Unanswered}
 use Rattle.rules.proofs.TakenLaws.{refused-is, accepted-is}
 use Rattle.rules.proofs.KeptLaws.{raises-none}
-use Rattle.rules.proofs.AlertLaws.{bits, due-same, silence-is}
+use Rattle.rules.proofs.IdleLaws.{bits, due-same}
+use Rattle.rules.proofs.AlertLaws.{is-not, errors, silence-is}
 use Rattle.rules.proofs.IntLaws.{due-is, int-is, quiet-calm, quiet-still, raised}
 
 -- ---- one event
@@ -55,7 +56,7 @@ module _ (e : Event) (g : History) where
       (λ r. rw r)
       (λ r. rw (r, y)
       (by-cases (isKind kind.Alert e)
-      (λ a. absurd (true≢false (sym y ∙ raises-none e (taken g) (bits e (taken g) a))))
+      (λ a. absurd (true≢false (sym y ∙ raises-none e (taken g) (bits e (taken g) (is-not e (taken g) a)) (errors e (taken g) a))))
       (λ n. rw n (by-cases (silenced (taken g)) (λ s. rw s) (λ s. rw s)))))
 
   pub raised-free : Accepted e g → (f : FanId) (k : ℕ) → k < 8 → statusBit f k g ≡ false → statusBit f k (e ∷ g) ≡ true → silenced (taken (e ∷ g)) ≡ false
@@ -69,7 +70,7 @@ module _ (e : Event) (g : History) where
   pub alert-out : isKind kind.Alert e ≡ true → Accepted e g → out (e ∷ g) .int ≡ 0
   alert-out y go =
       int-is (e ∷ g)
-      ∙ rw (due-is (e ∷ g), accepted-is e g go, due-same e (taken g) y, silence-is e (taken g) y)
+      ∙ rw (due-is (e ∷ g), accepted-is e g go, due-same e (taken g) (is-not e (taken g) y) (errors e (taken g) y), silence-is e (taken g) y)
       (by-cases (intDue (taken g)) (λ d. rw (d, or-true (silenced (taken g)))) (λ n. rw n))
 
 -- ---- and over lists

@@ -17,10 +17,10 @@ use Rattle.rules.specs.Stored.{Taken, storedAt}
 use Rattle.rules.specs.Targets.{overridden}
 use Rattle.rules.specs.Duties.{enabled, tachOn, spinUpClocks, left, judgedIn, failedIn, spin, judged, failed, failures, faultBit}
 use Rattle.rules.proofs.EventLaws.{of-kind}
-use Rattle.rules.proofs.CalmLaws.{no-restart, same-prior, byte-same, limit-same, spin-up-same, Untouched, untouched}
+use Rattle.rules.proofs.CalmLaws.{no-restart, same-prior, byte-same, limit-same, spin-up-same}
 use Rattle.rules.proofs.SoundLaws.{two-clocks, wanted, aimed, sound, is-wanted}
 use Rattle.rules.proofs.TurnLaws as turn
-use Rattle.rules.proofs.TurnLaws.{failure-left, wanted-same, duty-same}
+use Rattle.rules.proofs.TurnLaws.{failure-left, AimKept, aim-by-kind, wanted-same, duty-same}
 
 -- a count would be judged: the tach bit is 1, the duty above 0, nothing is left of the spin-up
 abbrev pub judgeable : FanId → Taken → Bool
@@ -40,10 +40,10 @@ module _ (e : Event) (d : Taken) (tach : isKind kind.Tach e ≡ true) where
   bits-same : storedAt config2 (e ∷ d) ≡ storedAt config2 d
   bits-same = byte-same e d (kind-is kind.Power) (kind-is kind.Write) config2 refl
 
-  abbrev settled : Untouched e d
-  settled = untouched e d (kind-is kind.Power) (kind-is kind.Write) (kind-is kind.Sample) (kind-is kind.Pin)
-
   module _ (f : FanId) where
+    abbrev as-before : AimKept f e d
+    as-before = aim-by-kind f e d (kind-is kind.Power) (kind-is kind.Write) (kind-is kind.Sample) (kind-is kind.Pin) (kind-is kind.Diode)
+
     failed-in : failed f e d ≡ failedIn f e d (spin f d)
     unfolding failed
     failed-in = ap (failedIn f e d) (same-prior e d (kind-is kind.Power) (kind-is kind.Write) (spin f d))
@@ -69,7 +69,7 @@ module _ (e : Event) (d : Taken) (tach : isKind kind.Tach e ≡ true) where
     -- a failure begins the spin-up anew
     module _ (bad : failed f e d ≡ true) (was : 0 < spin f d .duty) where
       wanted-now : wanted f (e ∷ d) ≡ true
-      wanted-now = wanted-same f e d settled ∙ is-wanted f d was
+      wanted-now = wanted-same f e d as-before ∙ is-wanted f d was
 
       pub left-anew : left (spin f (e ∷ d)) ≡ spinUpClocks f d
       left-anew =
@@ -85,7 +85,7 @@ module _ (e : Event) (d : Taken) (tach : isKind kind.Tach e ≡ true) where
 
     -- any other count leaves the duty and the spin-up
     pub duty-kept : failed f e d ≡ false → spin f (e ∷ d) .duty ≡ spin f d .duty
-    duty-kept fine = duty-same f e d settled (kind-is kind.Clock) (sym failed-in ∙ fine) (rw (kind-is kind.Period))
+    duty-kept fine = duty-same f e d as-before (kind-is kind.Clock) (sym failed-in ∙ fine) (rw (kind-is kind.Period))
 
     pub left-kept : failed f e d ≡ false → left (spin f (e ∷ d)) ≡ left (spin f d)
-    left-kept fine = turn.left-kept f e d settled (kind-is kind.Clock) (sym failed-in ∙ fine) (rw (kind-is kind.Period))
+    left-kept fine = turn.left-kept f e d as-before (kind-is kind.Clock) (sym failed-in ∙ fine) (rw (kind-is kind.Period))

@@ -32,9 +32,9 @@ pub record Passed (on : Bool) (e : Event) : Type 0 where
   pub range : outOfRange e ≡ false
   pub even : oddLocal e ≡ false
 
-passed : (on : Bool) (own : ℕ) (monitoring : Bool) (e : Event) → accepts (lowest on own monitoring e) ≡ true → Passed on e
+passed : (on : Bool) (own : ℕ) (monitoring error1 error2 : Bool) (e : Event) → accepts (lowest on own monitoring error1 error2 e) ≡ true → Passed on e
 unfolding lowest
-passed on own monitoring e y =
+passed on own monitoring error1 error2 e y =
     let p1 = passes (noPower on e) NoPower _ refl y in
     let p2 = passes (otherAddress own e) OtherAddress _ refl (p1 .1) in
     let p3 = passes (noPart e) NoSuchPart _ refl (p2 .1) in
@@ -47,7 +47,7 @@ passed on own monitoring e y =
 
 pub went : (e : Event) (d : Taken) → accepts (replyTo e d) ≡ true → Passed (powered d) e
 unfolding replyTo
-went e d go = passed (powered d) _ _ e go
+went e d go = passed (powered d) _ _ _ _ e go
 
 -- ---- lists
 

@@ -16,7 +16,7 @@ use Rattle.rules.specs.Events.{periods, restarts}
 use Rattle.rules.specs.Stored.{Taken}
 use Rattle.rules.specs.Targets.{target, overridden}
 use Rattle.rules.specs.Duties.{enabled, filtered, rate, nearer, spinUpClocks, Spin, left, prior, failedIn, spinUpStarts, spinAfter, spin}
-use Rattle.rules.proofs.CalmLaws.{Untouched, target-same, override-same}
+use Rattle.rules.proofs.CalmLaws.{ErrorsKept, error-same, Untouched, untouched, target-same, override-same}
 use Rattle.rules.proofs.SoundLaws.{wanted, aimed, leftThen, freely, left-then, began, turns, settled, sound, is-wanted}
 
 -- ---- a spin-up starts
@@ -60,14 +60,31 @@ module _ (f : FanId) (e : Event) (d : Taken) (no-restart : restarts e ≡ false)
       spin f (e ∷ d) .duty ≡ freely f e d (spin f d)
   free-step on free aim z = rw stepped (settled f e d (spin f d) on free aim (rw stepped at z))
 
--- ---- an event that touches nothing that the fan goes by: it turns on as it did
+-- ---- an event that leaves what the fan goes by: it turns on as it did
 
-module _ (f : FanId) (e : Event) (d : Taken) (u : Untouched e d) where
+pub record AimKept (f : FanId) (e : Event) (d : Taken) : Type 0 where
+  pub settled : Untouched e d
+  pub aim : target f (e ∷ d) ≡ target f d
+
+pub aimed-as-before : (f : FanId) (e : Event) (d : Taken) → Untouched e d → ErrorsKept e d → AimKept f e d
+aimed-as-before f e d u x = record { settled = u; aim = target-same e d u x f }
+
+-- one that is no power, write, sample, pin or report on a diode
+pub aim-by-kind :
+    (f : FanId) (e : Event) (d : Taken) → isKind kind.Power e ≡ false → isKind kind.Write e ≡ false → isKind kind.Sample e ≡ false →
+    isKind kind.Pin e ≡ false → isKind kind.Diode e ≡ false → AimKept f e d
+aim-by-kind f e d no-power no-write no-sample no-pin no-diode =
+    aimed-as-before f e d (untouched e d no-power no-write no-sample no-pin) (error-same e d no-power no-diode)
+
+module _ (f : FanId) (e : Event) (d : Taken) (s : AimKept f e d) where
+  abbrev u : Untouched e d
+  u = s .settled
+
   enabled-same : enabled f (e ∷ d) ≡ enabled f d
   enabled-same = rw (u .byte config2 refl)
 
   aim-same : target f (e ∷ d) ≡ target f d
-  aim-same = target-same e d u f
+  aim-same = s .aim
 
   free-same : overridden (e ∷ d) ≡ overridden d
   free-same = override-same e d u

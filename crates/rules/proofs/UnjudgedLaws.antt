@@ -12,7 +12,7 @@ use Rattle.event.specs.declared.Kind.the-variants as kind
 use Rattle.rules.specs.Stored.{Taken, counts}
 use Rattle.rules.specs.Duties.{tachOn, duty, judged, failed, failures}
 use Rattle.rules.specs.Shows.{value, shown}
-use Rattle.rules.proofs.CalmLaws.{byte-same, Untouched, untouched}
+use Rattle.rules.proofs.CalmLaws.{byte-same, ErrorsKept, error-same, Untouched, untouched}
 use Rattle.rules.proofs.KeptLaws.{BitsKept, bits-kept, value-kept, shown-kept}
 use Rattle.rules.proofs.TachLaws.{kind-is, judged-is, failed-is, run-is, run-kept, duty-kept}
 
@@ -40,8 +40,11 @@ module _ (e : Event) (d : Taken) (tach : isKind kind.Tach e ≡ true) (calm : (f
   abbrev bits : BitsKept e d
   bits = bits-kept e d (is kind.Power) (is kind.Write) (is kind.Read) (is kind.Sample) (is kind.Pin) fine
 
+  abbrev errors : ErrorsKept e d
+  errors = error-same e d (is kind.Power) (is kind.Diode)
+
   pub value-same : (a : ℕ) → counts a e ≡ false → value a (e ∷ d) ≡ value a d
-  value-same a q = value-kept e d bits settled a (byte-same e d (is kind.Power) (is kind.Write) a q)
+  value-same a q = value-kept e d bits errors settled a (byte-same e d (is kind.Power) (is kind.Write) a q)
 
   pub shown-same : shown (e ∷ d) ≡ shown d
-  shown-same = shown-kept e d bits settled (is kind.Alert) run-same duty-same
+  shown-same = shown-kept e d bits errors settled (is kind.Alert) run-same duty-same

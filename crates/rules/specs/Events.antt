@@ -78,8 +78,8 @@ ranges who arg val = record { who = who; arg = arg; val = val }
 abbrev pub unused : Range
 unused = upTo 0
 
--- the table: power, write, point, read, sample, tach, pin, clock, period; alert (T-02). A bus address has 7 bits and a register 8;
--- which of them are ours is judged by replies 2 and 4.
+-- the table: power, write, point, read, sample, tach, pin, clock, period; alert (T-02), diode (T-05). A bus address has 7 bits and a
+-- register 8; which of them are ours is judged by replies 2 and 4.
 abbrev pub carried : List Ranges
 carried =
     ranges (fromTo (pos 44) (pos 46)) (upTo 1) (upTo 1)
@@ -92,6 +92,7 @@ carried =
     ∷ ranges unused unused unused
     ∷ ranges (fromTo (pos 1) (pos 2)) unused unused
     ∷ ranges (upTo 127) unused unused
+    ∷ ranges (fromTo (pos 1) (pos 2)) unused (upTo 1)
     ∷ []
 
 unfoldable pub rangesOf : Event → Ranges
@@ -109,9 +110,12 @@ abbrev pub fanNumber : FanId → ℕ
 fanNumber One = 1
 fanNumber Two = 2
 
--- a sample of a channel; a count, a period of a fan
+-- a sample of a channel, a report on its diode (T-05); a count, a period of a fan
 abbrev pub samples : ChannelId → Event → Bool
 samples c e = isKind kind.Sample e && isNumber (who e) (channelNumber c)
+
+abbrev pub reports : ChannelId → Event → Bool
+reports c e = isKind kind.Diode e && isNumber (who e) (channelNumber c)
 
 abbrev pub measures : FanId → Event → Bool
 measures f e = isKind kind.Tach e && isNumber (who e) (fanNumber f)

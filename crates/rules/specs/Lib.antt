@@ -19,4 +19,5 @@ pub mod PageOffsets
 pub mod PageAlerts
 pub mod PageAlertRow
 pub mod PageReasons
+pub mod PageDiodes
 pub mod Page

@@ -20,7 +20,7 @@ use Rattle.rules.specs.Targets.{flag, target, overridden}
 use Rattle.rules.specs.Duties.{left, spin, failures}
 use Rattle.rules.specs.PageWords.{write, read, sampled, counted, turned, tenth, Accepted, register, bit, out, dutyOut, byFan, outputBit, tachBit}
 use Rattle.rules.specs.PageWords.{filterBit, alarmStatus, faultStatus, tminFigure, rangeFigure, control, spinUpFigure, rateFigure, minimumCode}
-use Rattle.rules.specs.PageWords.{readingFigure, isAssigned}
+use Rattle.rules.specs.PageWords.{errorStatus, readingFigure, isAssigned}
 
 -- the run flag of a channel; the target and the clocks left of the spin-up of a fan; override; the run of failures
 abbrev pub running : ChannelId → History → Bool
@@ -47,12 +47,13 @@ abbrev pub excess : ℤ → ℕ
 excess (pos n) = n
 excess (negsuc n) = 0
 
--- 2: the demand of a channel on a fan
+-- 2: the demand of a channel on a fan; T-05: 240 while its diode is in error
 abbrev pub demanded : FanId → ChannelId → History → ℕ
 demanded f c h =
-    cond (running c h)
+    cond (errorStatus c h) 240
+    (cond (running c h)
     (min 240 (16 * minimumCode f h + 20 * excess (eighthsRead c h -ℤ pos (8 * tminFigure (control c h))) / rangeFigure (control c h)))
-    0
+    0)
 
 -- 6: a fan whose duty is 0 is to turn after the event: enabled, and its target above 0 or overridden
 abbrev pub toTurn : FanId → History → Bool

@@ -4,6 +4,7 @@ use mathlib.Core.Path.{_≡_}
 use mathlib.Core.Bool.{Bool, true, false, cond}
 use mathlib.Core.List.{[], _∷_}
 use lib.IntN.{ℤ, pos, _+ℤ_, _-ℤ_, _*ℤ_}
+use Rattle.integer.specs.Bits.{bitOf}
 use Rattle.part.specs.declared.ChannelId.{ChannelId}
 use Rattle.part.specs.declared.FanId.{FanId}
 use Rattle.event.specs.declared.Event.{Event}
@@ -85,6 +86,10 @@ codeBy f read = byFan (read 0x22 % 16) (read 0x22 / 16) f
 abbrev pub demandBy : FanId → (control : ℕ) → (eighths : ℤ) → (read : ℕ → ℕ) → ℕ
 demandBy f control eighths read = min 240 (16 * codeBy f read + 20 * excess (eighths -ℤ pos (8 * tminFigure control)) / rangeFigure control)
 
+-- bit 5 of 0x02, 0x03: the diode of a remote channel is in error (T-05)
+abbrev pub errorBy : ChannelId → (read : ℕ → ℕ) → Bool
+errorBy c read = byChannel false (bitOf (read 0x02) 5) (bitOf (read 0x03) 5) c
+
 unfoldable pub dutyBy : FanId → Reason → (read : ℕ → ℕ) → ℕ
 dutyBy f reason.Disabled read = 0
 dutyBy f reason.PinLow read = 240
@@ -93,7 +98,7 @@ dutyBy f reason.NoTarget read = 0
 dutyBy f (reason.SpinUp n) read = 240
 dutyBy f (reason.Ramp r) read = cond (r .up) (r .target - r .left) (r .target + r .left)
 dutyBy f reason.Manual read = 16 * codeBy f read
-dutyBy f (reason.Demand c) read = demandBy f (read (byChannel 0x24 0x25 0x26 c)) (eighthsBy c read) read
+dutyBy f (reason.Demand c) read = cond (errorBy c read) 240 (demandBy f (read (byChannel 0x24 0x25 0x26 c)) (eighthsBy c read) read)
 
 -- ---- what holds after every list
 

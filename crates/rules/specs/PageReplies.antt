@@ -20,8 +20,8 @@ use Rattle.rules.specs.Temperatures.{latch}
 use Rattle.rules.specs.Targets.{flag}
 use Rattle.rules.specs.Duties.{left, spin, failures}
 use Rattle.rules.specs.Shows.{valuesFrom, imageReply, imageHeld}
-use Rattle.rules.specs.PageWords.{power, write, point, read, sample, tach, pin, clock, period, alert, Accepted, register, bit, out}
-use Rattle.rules.specs.PageWords.{replyNumber, dataOut}
+use Rattle.rules.specs.PageWords.{power, write, point, read, sample, tach, pin, clock, period, alert, diode, Accepted, register, bit, out}
+use Rattle.rules.specs.PageWords.{replyNumber, dataOut, byFan}
 
 -- ---- words for the replies: v is n, v is one of a list, low ≤ v ≤ high
 
@@ -60,7 +60,7 @@ odd (negsuc n) = eqb (n % 2) 0
 abbrev pub first : (t : Bool) (n rest : ℕ) → ℕ
 first t n rest = cond t n rest
 
--- what is asked of the past: power, the own address, monitoring (bit 0 of 0x00)
+-- what is asked of the past: power, the own address, monitoring (bit 0 of 0x00), the diode of the remote channel of a number (bit 5 of 0x02, 0x03)
 abbrev pub powerOn : History → Bool
 powerOn h = powered (taken h)
 
@@ -69,6 +69,9 @@ ours who h = same who (pos (ownAddress (taken h)))
 
 abbrev pub monitored : History → Bool
 monitored h = bit 0x00 0 h
+
+abbrev pub broken : ℤ → History → Bool
+broken who h = (same who (pos 1) && bit 0x02 5 h) || (same who (pos 2) && bit 0x03 5 h)
 
 -- ---- the bytes after power, place by place from 0x00: a and b are the diode errors
 abbrev pub powerImage : (a b : ℕ) → List ℕ
@@ -101,7 +104,8 @@ pub record PageReplies (h : History) : Type 0 where
   pub samples :
       (w a v : ℤ) → replyNumber (sample w a v) h
       ≡ first (not (powerOn h)) 1 (first (not (between (pos 0) (pos 2) w)) 3
-      (first (not (isZero a && between (negsuc 1023) (pos 1023) v)) 6 (first (isZero w && odd v) 8 (first (not (monitored h)) 9 0))))
+      (first (not (isZero a && between (negsuc 1023) (pos 1023) v)) 6 (first (isZero w && odd v) 8 (first (not (monitored h)) 9
+      (first (broken w h) 13 0)))))
   pub tachs :
       (w a v : ℤ) → replyNumber (tach w a v) h
       ≡ first (not (powerOn h)) 1 (first (not (between (pos 1) (pos 2) w)) 3
@@ -115,6 +119,10 @@ pub record PageReplies (h : History) : Type 0 where
   pub alerts :
       (w a v : ℤ) → replyNumber (alert w a v) h
       ≡ first (not (powerOn h)) 1 (first (not (ours w h)) 2 (first (not (isZero a && isZero v)) 6 0))
+  -- T-05: "3 (channel 0 too) and 6 for the new event as for others"; monitoring is not asked
+  pub diodes :
+      (w a v : ℤ) → replyNumber (diode w a v) h
+      ≡ first (not (powerOn h)) 1 (first (not (between (pos 1) (pos 2) w)) 3 (first (not (isZero a && between (pos 0) (pos 1) v)) 6 0))
   -- "A refusal returns its number with data 0 and leaves the whole state as before."
   pub refusal : (e : Event) → accepted e h ≡ false → (dataOut e h ≡ 0) × (taken (e ∷ h) ≡ taken h)
   -- "Only a read returns data": the byte at the pointer
@@ -128,17 +136,21 @@ pub record PageReplies (h : History) : Type 0 where
   pub pointerStays :
       (e : Event) → Accepted e h → isKind kind.Power e ≡ false → isKind kind.Write e ≡ false → isKind kind.Point e ≡ false →
       pointer (taken (e ∷ h)) ≡ pointer (taken h)
-  -- "Power always starts afresh": every register, output and hidden state, whatever came before
+  -- "Power always starts afresh": every register, output and hidden state, whatever came before; a diode error (T-05) acts at once
   pub image :
       (w : ℤ) (a b : ℕ) → Accepted (power w (pos a) (pos b)) h →
       valuesFrom 0 64 (taken (power w (pos a) (pos b) ∷ h)) ≡ powerImage a b
-  pub outputs : (w a v : ℤ) → Accepted (power w a v) h → out (power w a v ∷ h) ≡ record { int = 0; therm = 0; fault = 0; duty1 = 0; duty2 = 0 }
+  pub outputs :
+      (w : ℤ) (a b : ℕ) → Accepted (power w (pos a) (pos b)) h →
+      out (power w (pos a) (pos b) ∷ h) ≡ record { int = 0; therm = 0; fault = 0; duty1 = 240 * a; duty2 = 240 * b }
   pub address : (w : ℕ) (a v : ℤ) → Accepted (power (pos w) a v) h → ownAddress (taken (power (pos w) a v ∷ h)) ≡ w
   pub start : (w a v : ℤ) → Accepted (power w a v) h → (pointer (taken (power w a v ∷ h)) ≡ 0) × (pinLow (taken (power w a v ∷ h)) ≡ false)
   pub latches :
       (w a v : ℤ) (c : ChannelId) → Accepted (power w a v) h →
       (latch c (taken (power w a v ∷ h)) ≡ false) × (flag c (taken (power w a v ∷ h)) ≡ false)
-  pub fans : (w a v : ℤ) (f : FanId) → Accepted (power w a v) h → (left (spin f (taken (power w a v ∷ h))) ≡ 0) × (failures f (taken (power w a v ∷ h)) ≡ 0)
+  pub fans :
+      (w : ℤ) (a b : ℕ) (f : FanId) → Accepted (power w (pos a) (pos b)) h →
+      (left (spin f (taken (power w (pos a) (pos b) ∷ h))) ≡ 20 * byFan a b f) × (failures f (taken (power w (pos a) (pos b) ∷ h)) ≡ 0)
   -- a write changes the writable bits of its register, and no other register but the status bytes
   pub written :
       (w : ℤ) (a b k : ℕ) → Accepted (write w (pos a) (pos b)) h → (eqb a 0x01 && bitOf b 7) ≡ false → k < 8 →

@@ -107,12 +107,13 @@ pub record PageTemperatures (h : History) : Type 0 where
   pub keeps :
       (w : ℤ) (f : FanId) → Accepted (read w (pos 0) (pos 0)) h → eqb (pointer (taken h)) (byFan 0x02 0x03 f) ≡ false →
       register (byFan 0x02 0x03 f) (read w (pos 0) (pos 0) ∷ h) ≡ register (byFan 0x02 0x03 f) h
-  -- 5: "Bit 5 comes from power and stays until the next power"
+  -- 5: "Bit 5 comes from power and stays"; T-05: or from a report on the diode, and no other event moves it, a read or a reset neither
   pub errors :
       (w : ℤ) (a b : ℕ) → Accepted (power w (pos a) (pos b)) h →
       (bit 0x02 5 (power w (pos a) (pos b) ∷ h) ≡ eqb a 1) × (bit 0x03 5 (power w (pos a) (pos b) ∷ h) ≡ eqb b 1)
   pub errorsStay :
-      (e : Event) → Accepted e h → isKind kind.Power e ≡ false → (bit 0x02 5 (e ∷ h) ≡ bit 0x02 5 h) × (bit 0x03 5 (e ∷ h) ≡ bit 0x03 5 h)
+      (e : Event) → Accepted e h → isKind kind.Power e ≡ false → isKind kind.Diode e ≡ false →
+      (bit 0x02 5 (e ∷ h) ≡ bit 0x02 5 h) × (bit 0x03 5 (e ∷ h) ≡ bit 0x03 5 h)
   -- the pin level: pulled low, let go, high after power; no other event moves it
   pub level : (Accepted pulledLow h → pulled (pulledLow ∷ h) ≡ true) × (Accepted letGo h → pulled (letGo ∷ h) ≡ false)
   pub levelStays : (e : Event) → Accepted e h → isKind kind.Pin e ≡ false → isKind kind.Power e ≡ false → pulled (e ∷ h) ≡ pulled h

@@ -56,11 +56,19 @@ period who arg val = event.Period (numbers who arg val)
 abbrev pub alert : (who arg val : ℤ) → Event
 alert who arg val = event.Alert (numbers who arg val)
 
--- a sample of t eighths of the channel; a count, a period of the fan; the pin pulled low, let go; a tenth of a second
+abbrev pub diode : (who arg val : ℤ) → Event
+diode who arg val = event.Diode (numbers who arg val)
+
+-- a sample of t eighths of the channel, a report on its diode; a count, a period of the fan; the pin pulled low, let go; a tenth of a second
 abbrev pub sampled : ChannelId → ℤ → Event
 sampled Local t = sample (pos 0) (pos 0) t
 sampled Remote1 t = sample (pos 1) (pos 0) t
 sampled Remote2 t = sample (pos 2) (pos 0) t
+
+abbrev pub reported : ChannelId → ℤ → Event
+reported Local v = diode (pos 0) (pos 0) v
+reported Remote1 v = diode (pos 1) (pos 0) v
+reported Remote2 v = diode (pos 2) (pos 0) v
 
 abbrev pub counted : FanId → ℤ → Event
 counted One n = tach (pos 1) (pos 0) n
@@ -147,6 +155,10 @@ lowStatus c h = bit (byChannel 0x02 0x02 0x03 c) (byChannel 7 3 3 c) h
 
 abbrev pub thermStatus : ChannelId → History → Bool
 thermStatus c h = bit (byChannel 0x03 0x02 0x03 c) (byChannel 6 4 4 c) h
+
+-- the diode error of a remote channel; local has none
+abbrev pub errorStatus : ChannelId → History → Bool
+errorStatus c h = byChannel false (bit 0x02 5 h) (bit 0x03 5 h) c
 
 abbrev pub alarmStatus : FanId → History → Bool
 alarmStatus f h = bit (byFan 0x02 0x03 f) 0 h

@@ -11,7 +11,7 @@ use Rattle.event.specs.Kinds.{isKind}
 use Rattle.event.specs.declared.Event.{Event}
 use Rattle.event.specs.declared.Kind.the-variants as kind
 use Rattle.rules.specs.Registers.{speedAt, statusAt, maskAt, resetAt}
-use Rattle.rules.specs.Events.{who, arg, val, isNumber, natural, registerGiven, byteGiven, measures, writes, reads, restarts}
+use Rattle.rules.specs.Events.{who, arg, val, isNumber, natural, registerGiven, byteGiven, reports, measures, writes, reads, restarts}
 
 -- the accepted events, the newest first
 abbrev pub Taken : Type 0
@@ -49,7 +49,7 @@ unfoldable pub pinLow : Taken → Bool
 pinLow [] = false
 pinLow (e ∷ d) = cond (isKind kind.Power e) false (cond (isKind kind.Pin e) (isNumber (val e) 0) (pinLow d))
 
--- temperatures 5: diode errors come from power and stay until the next
+-- temperatures 5 and 9, T-05: a diode error comes from power or from a report on the diode, and stands until the next of these; a reset leaves it
 abbrev pub errorGiven : ChannelId → Event → Bool
 errorGiven Local e = false
 errorGiven Remote1 e = isNumber (arg e) 1
@@ -57,7 +57,7 @@ errorGiven Remote2 e = isNumber (val e) 1
 
 unfoldable pub diodeError : ChannelId → Taken → Bool
 diodeError c [] = false
-diodeError c (e ∷ d) = cond (isKind kind.Power e) (errorGiven c e) (diodeError c d)
+diodeError c (e ∷ d) = cond (isKind kind.Power e) (errorGiven c e) (cond (reports c e) (isNumber (val e) 1) (diodeError c d))
 
 -- temperatures 6: bit 7 of 0x03 is set when the pin goes from high to low
 unfoldable pub pulledBit : Taken → Bool

@@ -12,7 +12,7 @@ use Rattle.part.specs.declared.FanId.the-variants.{One, Two}
 use Rattle.rules.specs.Registers.{config1, speeds, controlAt, behaviour}
 use Rattle.rules.specs.Fields.{assignment, automatic, speedCode, rangeCode, tminCode, thermDrivesFans}
 use Rattle.rules.specs.Events.{natural, samples, restarts}
-use Rattle.rules.specs.Stored.{Taken, storedAt, pinLow}
+use Rattle.rules.specs.Stored.{Taken, storedAt, pinLow, diodeError}
 use Rattle.rules.specs.Offsets.{measured}
 use Rattle.rules.specs.Temperatures.{hysteresis, temperature, thermAsserted}
 
@@ -36,9 +36,11 @@ flag c (e ∷ d) =
 abbrev pub demandZ : (flag : Bool) (m tmin range : ℕ) (t : ℤ) → ℕ
 demandZ flag m tmin range t = cond flag (min 240 (16 * m + 20 * natural (t -ℤ pos (8 * tmin)) / range)) 0
 
+-- T-05: 240 while the diode is in error, whatever the run flag
 unfoldable pub demand : FanId → ChannelId → Taken → ℕ
 demand f c d =
-    demandZ (flag c d) (speedCode f (storedAt speeds d)) (tminOf (storedAt (controlAt c) d)) (rangeOf (storedAt (controlAt c) d)) (temperature c d)
+    cond (diodeError c d) 240
+    (demandZ (flag c d) (speedCode f (storedAt speeds d)) (tminOf (storedAt (controlAt c) d)) (rangeOf (storedAt (controlAt c) d)) (temperature c d))
 
 -- ---- rule 3: targets
 

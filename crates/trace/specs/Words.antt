@@ -13,7 +13,7 @@ use Rattle.trace.specs.declared.Word.the-variants.{Known, Unknown}
 use Rattle.trace.specs.declared.Named.{Named}
 use Rattle.trace.specs.declared.Named.the-variants as named
 
--- power, write, point, read, sample, tach, pin, clock, period; alert (T-02 of document 02)
+-- power, write, point, read, sample, tach, pin, clock, period; alert, diode (T-02, T-05 of document 02)
 abbrev pub wordOf : Kind → List ℕ
 wordOf kind.Power = 112 ∷ 111 ∷ 119 ∷ 101 ∷ 114 ∷ []
 wordOf kind.Write = 119 ∷ 114 ∷ 105 ∷ 116 ∷ 101 ∷ []
@@ -25,6 +25,7 @@ wordOf kind.Pin = 112 ∷ 105 ∷ 110 ∷ []
 wordOf kind.Clock = 99 ∷ 108 ∷ 111 ∷ 99 ∷ 107 ∷ []
 wordOf kind.Period = 112 ∷ 101 ∷ 114 ∷ 105 ∷ 111 ∷ 100 ∷ []
 wordOf kind.Alert = 97 ∷ 108 ∷ 101 ∷ 114 ∷ 116 ∷ []
+wordOf kind.Diode = 100 ∷ 105 ∷ 111 ∷ 100 ∷ 101 ∷ []
 
 -- kind= and the word
 abbrev pub kindText : Kind → List ℕ

@@ -43,10 +43,11 @@ pub enum Reading {
 }
 
 // The lines of the kinds in slots of 12 bytes, in the order of their places, each filled up with zeros.
-pub fn kind_table() -> [u8; 120]
+pub fn kind_table() -> [u8; 132]
     ensures { λ r. ⌜ r ≡ kindTable ⌝ }
 {
-    *b"kind=power\n\0kind=write\n\0kind=point\n\0kind=read\n\0\0kind=sample\nkind=tach\n\0\0kind=pin\n\0\0\0kind=clock\n\0kind=period\nkind=alert\n\0"
+    *b"kind=power\n\0kind=write\n\0kind=point\n\0kind=read\n\0\0kind=sample\nkind=tach\n\0\0kind=pin\n\0\0\0kind=clock\n\0\
+        kind=period\nkind=alert\n\0kind=diode\n\0"
 }
 
 // Whether the text has n bytes from an index on.
@@ -74,7 +75,7 @@ fn stands(bytes: &[u8], text: &[u8], at: usize) -> bool
 
 // How long the line of the kind at a place is, with its newline, where it stands in the text at an index; else 0.
 // The text has nine bytes there, and no line ends within its first eight.
-fn matched(table: &[u8; 120], place: u16, text: &[u8], at: usize) -> usize
+fn matched(table: &[u8; 132], place: u16, text: &[u8], at: usize) -> usize
     requires { ⌜ now table ≡ kindTable ⌝ }
     requires { ⌜ place < length kinds ⌝ }
     requires { ⌜ at + 9 ≤ length (now text) ⌝ }

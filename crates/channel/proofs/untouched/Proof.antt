@@ -8,6 +8,9 @@ is-restart-requires c κs = search needs
 is-a-requires : tie.Need-is-a-requires
 is-a-requires c κs = search needs
 
+is-a-requires-2 : tie.Need-is-a-requires-2
+is-a-requires-2 c κs = search needs
+
 reads-status-requires : tie.Need-reads-status-requires
 reads-status-requires c κs = search needs
 
@@ -29,6 +32,7 @@ untouched-spec =
     (tie.spec
     is-restart-requires
     is-a-requires
+    is-a-requires-2
     reads-status-requires
     is-on-requires
     is-on-requires-2

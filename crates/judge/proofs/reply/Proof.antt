@@ -31,6 +31,9 @@ odd-local-requires c κs = search needs
 not-monitoring-requires : tie.Need-not-monitoring-requires
 not-monitoring-requires c κs = search needs
 
+broken-diode-requires : tie.Need-broken-diode-requires
+broken-diode-requires c κs = search needs
+
 returns : tie.Need-returns
 unfolding lowestIn
 returns c = search (given, passed) depth 30
@@ -69,7 +72,11 @@ returns-9 c = search (given, passed) depth 30
 
 returns-10 : tie.Need-returns-10
 unfolding lowestIn
-returns-10 c = search passed depth 30
+returns-10 c = search (given, passed) depth 30
+
+returns-11 : tie.Need-returns-11
+unfolding lowestIn
+returns-11 c = search passed depth 30
 
 pub reply-spec : {M : Type 1} → statement M
 reply-spec =
@@ -84,6 +91,7 @@ reply-spec =
     bad-code-requires
     odd-local-requires
     not-monitoring-requires
+    broken-diode-requires
     returns
     returns-2
     returns-3
@@ -93,4 +101,5 @@ reply-spec =
     returns-7
     returns-8
     returns-9
-    returns-10)
+    returns-10
+    returns-11)

@@ -1,41 +1,44 @@
--- An alert leaves the chip that the rules describe, part by part. Assumes nothing.
+-- An event of none of document 01's kinds, after which the diode errors are as before, leaves the chip that the rules describe.
+-- No event of another kind disturbs a stretch. Assumes nothing.
 use mathlib.Core.Path.{_≡_, refl}
-use mathlib.Core.Bool.{true}
+use mathlib.Core.Bool.{false, and-false}
 use mathlib.Core.List.{_∷_}
 use Rattle.part.specs.declared.ChannelId.{ChannelId}
 use Rattle.part.specs.declared.ChannelId.the-variants.{Local, Remote1, Remote2}
 use Rattle.part.specs.declared.FanId.{FanId}
 use Rattle.part.specs.declared.FanId.the-variants.{One, Two}
-use Rattle.event.specs.Kinds.{isKind}
 use Rattle.event.specs.declared.Event.{Event}
 use Rattle.event.specs.declared.Kind.the-variants as kind
 use Rattle.rules.specs.Registers.{config2}
 use Rattle.rules.specs.Stored.{Taken, ownAddress, pointer}
+use Rattle.rules.specs.Replies.{History, taken, accepted}
 use Rattle.rules.specs.Duties.{atAlarm}
-use Rattle.rules.proofs.CalmLaws.{Untouched, override-same}
+use Rattle.rules.proofs.CalmLaws.{ErrorsKept, Untouched, override-same}
 use Rattle.rules.proofs.KeptLaws.{BitsKept}
-use Rattle.rules.proofs.AlertLaws as alert
+use Rattle.rules.proofs.IdleLaws as idle
+use Rattle.rules.proofs.IdleLaws.{Another}
+use Rattle.history.specs.Demand3.{disturbs}
 use Rattle.history.proofs.State.{portBy, channelRegistersBy, fanRegistersBy, registersBy, channelBy, channelsBy, fanBy, chipBy}
 
-module _ (e : Event) (d : Taken) (alerts : isKind kind.Alert e ≡ true) where
+module _ (e : Event) (d : Taken) (is-not : Another e) (errors : ErrorsKept e d) where
   abbrev u : Untouched e d
-  u = alert.settled e d alerts
+  u = idle.settled e d is-not
 
   abbrev k : BitsKept e d
-  k = alert.bits e d alerts
+  k = idle.bits e d is-not
 
   port-same : portBy (e ∷ d) ≡ portBy d
   unfolding portBy ownAddress pointer
   port-same =
-      rw (alert.kind-is e d alerts kind.Power, alert.kind-is e d alerts kind.Write, alert.kind-is e d alerts kind.Point, u .pin, k .pulled)
+      rw (is-not kind.Power refl, is-not kind.Write refl, is-not kind.Point refl, u .pin, k .pulled)
 
   registers-same : registersBy (e ∷ d) ≡ registersBy d
   unfolding registersBy channelRegistersBy fanRegistersBy
-  registers-same = simp (alert.byte-kept e d alerts)
+  registers-same = simp (idle.byte-kept e d is-not)
 
   channel-same : (c : ChannelId) → channelBy c (e ∷ d) ≡ channelBy c d
   unfolding channelBy
-  channel-same c = rw (u .reading c, u .latch c, u .flag c, k .high c, k .low c, k .therm c, k .error c)
+  channel-same c = rw (u .reading c, u .latch c, u .flag c, k .high c, k .low c, k .therm c, errors c)
 
   alarm-same : (f : FanId) → atAlarm f (e ∷ d) ≡ atAlarm f d
   unfolding atAlarm
@@ -43,9 +46,16 @@ module _ (e : Event) (d : Taken) (alerts : isKind kind.Alert e ≡ true) where
 
   fan-same : (f : FanId) → fanBy f (e ∷ d) ≡ fanBy f d
   unfolding fanBy
-  fan-same f = rw (alert.duty-same e d alerts f, alert.left-same e d alerts f, alert.run-same e d alerts f, alarm-same f, k .alarm f, k .fault f)
+  fan-same f =
+      rw (idle.duty-same e d is-not errors f, idle.left-same e d is-not errors f, idle.run-same e d is-not f, alarm-same f, k .alarm f, k .fault f)
 
   pub chip-same : chipBy (e ∷ d) ≡ chipBy d
   unfolding chipBy channelsBy
   chip-same =
       rw (port-same, registers-same, channel-same Local, channel-same Remote1, channel-same Remote2, fan-same One, fan-same Two)
+
+-- ---- stretches
+
+pub calm : (e : Event) (h : History) → Another e → (f : FanId) → disturbs f e h ≡ false
+unfolding disturbs
+calm e h is-not f = rw (is-not kind.Write refl, is-not kind.Power refl, idle.fine e (taken h) is-not f, and-false (accepted e h))
