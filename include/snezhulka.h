@@ -19,17 +19,19 @@ extern "C" {
    3 bytes for each byte of text, and 26 more, are always enough. */
 size_t snezhulka_replay(const uint8_t *text, size_t text_len, uint8_t *report, size_t report_len);
 
-/* Steps a keeper that never had power through a list of events, four numbers each: the kind from 0 (power) to 9 (alert) in
+/* Steps a keeper that never had power through a list of events, four numbers each: the kind from 0 (power) to 10 (diode) in
    the order of the trace format, who, arg, val. Puts seven bytes for each event into `outcomes`: answer, data, int, therm,
-   fault, duty1, duty2. Gives how many bytes those are; the events end before the first that has another kind.
-   `count` is the number of numbers; `outcomes` must have room for the outcomes of all events. */
+   fault, duty1, duty2. The answer is 0 or the number of the refusal, 1 to 9 or 13: a sample of a channel whose diode is in
+   error, which power and the event diode report. Gives how many bytes those are; the events end before the first that has
+   another kind. `count` is the number of numbers; `outcomes` must have room for the outcomes of all events. */
 size_t snezhulka_steps(const int32_t *numbers, size_t count, uint8_t *outcomes, size_t outcomes_len);
 
 /* Why both fans have their duties after each of the same events. Puts eight bytes for each event into `reasons`: for fan 1,
    then for fan 2, the number of the reason and its three values, 0 where it has fewer:
      1 output disabled; 2 THERM pulled low from outside; 3 a THERM latch: the lowest channel whose latch is on; 4 target 0;
      5 spinning up: the clock events left; 6 on the ramp: the slots left, 1 for up or 0 for down, the target; 7 set by hand;
-     8 demand of a channel: the lowest one that demands the most. Channels are 0 local, 1, 2 remote.
+     8 demand of a channel: the lowest one that demands the most; one whose diode is in error demands 240 slots.
+   Channels are 0 local, 1, 2 remote.
    Before the first accepted power they are 0, the reply number 1, 0, 0. Gives how many bytes those are; the events end before
    the first that has another kind. `reasons` must have room for the reasons after all events. */
 size_t snezhulka_reasons(const int32_t *numbers, size_t count, uint8_t *reasons, size_t reasons_len);

@@ -107,10 +107,11 @@ pub fn report_of(text: &[u8]) -> Vec<u8> {
     report
 }
 
-/// An event: its kind, from 0 (power) to 9 (alert) in the order of the trace format, who, arg and val.
+/// An event: its kind, from 0 (power) to 10 (diode) in the order of the trace format, who, arg and val.
 pub type Event = [i32; 4];
 
-/// What a report says of an event: answer, data, int, therm, fault, duty1, duty2.
+/// What a report says of an event: answer, data, int, therm, fault, duty1, duty2. The answer is 0 or the number of the
+/// refusal, 1 to 9 or 13: a sample of a channel whose diode is in error, which power and the event diode report.
 pub type Outcome = [u8; 7];
 
 /// Steps a keeper that never had power through `events` and puts their outcomes into `outcomes`.

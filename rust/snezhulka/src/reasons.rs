@@ -19,7 +19,8 @@ pub enum Reason {
     Ramp { left: u8, up: bool, target: u8 },
     /// The manual setting.
     Manual,
-    /// The demand of a channel: the lowest-numbered one assigned to the fan that has the largest demand.
+    /// The demand of a channel: the lowest-numbered one assigned to the fan that has the largest demand. One whose diode
+    /// is in error demands 240 slots.
     Demand(u8),
 }
 

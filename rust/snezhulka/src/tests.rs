@@ -119,7 +119,7 @@ fn numbers_that_are_no_whole_event_are_refused() {
 
 #[test]
 fn steps_end_where_a_kind_is_none() {
-    for kind in [-1, 10, i32::MIN, i32::MAX] {
+    for kind in [-1, 11, i32::MIN, i32::MAX] {
         let mut events = EVENTS;
         events[1][0] = kind;
         let mut outcomes = [[0xaa; 7]; 3];
@@ -158,7 +158,7 @@ fn image_after_power_has_the_reset_bytes() {
 
 #[test]
 fn image_that_is_refused_leaves_the_buffer() {
-    let foreign: Event = [10, 0, 0, 0];
+    let foreign: Event = [11, 0, 0, 0];
     let cases: [(&[Event], usize, u8); 4] = [
         (&[], IMAGE_LENGTH, 1),
         (&[], IMAGE_LENGTH - 1, 1),
@@ -257,6 +257,38 @@ fn alerts_are_events() {
         answers_and_int,
         [(0, 0), (0, 0), (0, 1), (2, 1), (0, 0), (0, 0), (0, 0)]
     );
+}
+
+#[test]
+fn diodes_are_events() {
+    // An error of remote 1 drives fan 1 in that very event, and its samples are refused until it is mended.
+    let (found, mended): (Event, Event) = ([10, 1, 0, 1], [10, 1, 0, 0]);
+    let sample: Event = [4, 1, 0, 168];
+    let events = [
+        found,
+        POWER,
+        [10, 0, 0, 1],
+        [10, 1, 0, 2],
+        found,
+        sample,
+        [1, 44, 0, 0x91],
+        sample,
+        mended,
+        sample,
+        [0, 44, 1, 0],
+    ];
+    let mut outcomes = [[0xaa; 7]; 11];
+    assert_eq!(steps(&events, &mut outcomes), Ok(11));
+    let answers = outcomes.map(|outcome| outcome[0]);
+    assert_eq!(answers, [1, 0, 3, 6, 0, 9, 0, 13, 0, 0, 0]);
+    let duties = outcomes.map(|outcome| outcome[5]);
+    assert_eq!(duties, [0, 0, 0, 0, 240, 240, 240, 240, 0, 0, 240]);
+    assert!(outcomes.iter().all(|outcome| outcome[6] == 0));
+    let mut buffer = [0; IMAGE_LENGTH];
+    assert_eq!(image(&events[..8], &mut buffer), 0);
+    assert_eq!((buffer[0x02], buffer[0x03]), (0x20, 0));
+    assert_eq!(image(&events[..9], &mut buffer), 0);
+    assert_eq!((buffer[0x02], buffer[0x03]), (0, 0));
 }
 
 #[test]

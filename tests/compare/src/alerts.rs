@@ -104,12 +104,13 @@ impl Alerts {
     }
 }
 
-fn is_reset(&[kind, _, register, byte]: &Event) -> bool {
+/// Whether an event is a software reset, if it is done.
+pub fn is_reset(&[kind, _, register, byte]: &Event) -> bool {
     kind == WRITE && register == 0x01 && byte & 0x80 != 0
 }
 
 /// The register image, 0 before power.
-fn registers(keeper: &Keeper) -> [u8; IMAGE_LENGTH] {
+pub fn registers(keeper: &Keeper) -> [u8; IMAGE_LENGTH] {
     let mut image = [0; IMAGE_LENGTH];
     keeper.image(&mut image);
     image

@@ -1,18 +1,20 @@
 //! What the compared traces and reports have reached.
 
 use crate::alerts::{self, Alerts};
+use crate::diodes::Diodes;
 use crate::facts::Facts;
 use crate::offsets::{Offsets, CASES};
 use snezhulka::Event;
 
-const ANSWERS: usize = 12;
+/// 12 is a row's alone.
+const ANSWERS: [usize; 13] = [0, 1, 2, 3, 4, 5, 6, 7, 8, 9, 10, 11, 13];
 const FULL_DUTY: usize = 240;
 const LEAST_DUTIES: usize = 150;
 
 pub struct Coverage {
     pub traces: u64,
     pub events: u64,
-    answers: [u64; ANSWERS],
+    answers: [u64; ANSWERS.len()],
     int: u64,
     therm: u64,
     fault: u64,
@@ -20,6 +22,7 @@ pub struct Coverage {
     samples: [[u64; 3]; CASES.len()],
     alerts: [u64; alerts::CASES.len()],
     facts: Facts,
+    diodes: Diodes,
 }
 
 impl Coverage {
@@ -28,7 +31,7 @@ impl Coverage {
         Coverage {
             traces: 0,
             events: 0,
-            answers: [0; ANSWERS],
+            answers: [0; ANSWERS.len()],
             int: 0,
             therm: 0,
             fault: 0,
@@ -36,14 +39,17 @@ impl Coverage {
             samples: [[0; 3]; CASES.len()],
             alerts: [0; alerts::CASES.len()],
             facts: Facts::none(),
+            diodes: Diodes::none(),
         }
     }
 
-    /// Counts the lines of one report, and what samples, alerts and fans meet where every line of the trace is right.
+    /// Counts the lines of one report, and what samples, alerts, fans and diode errors meet where every line of the trace is
+    /// right.
     pub fn count(&mut self, events: Option<&[Event]>, report: &[u8]) {
         self.traces += 1;
         self.count_alerts(events.unwrap_or_default());
         self.facts.count(events.unwrap_or_default());
+        self.diodes.count(events.unwrap_or_default());
         let mut events = events.unwrap_or_default().iter();
         let mut offsets = Offsets::none();
         for line in report.split(|&byte| byte == b'\n') {
@@ -69,10 +75,10 @@ impl Coverage {
 
     /// Answers 10 and 11 end a report and belong to no event.
     fn count_answer(&mut self, number: usize) {
-        if number < ANSWERS {
-            self.answers[number] += 1;
+        if let Some(place) = ANSWERS.iter().position(|&answer| answer == number) {
+            self.answers[place] += 1;
         }
-        if number < 10 {
+        if !(10..=11).contains(&number) {
             self.events += 1;
         }
     }
@@ -112,6 +118,7 @@ impl Coverage {
             *sum += more;
         }
         self.facts.add(&other.facts);
+        self.diodes.add(&other.diodes);
     }
 
     fn distinct_duties(&self) -> usize {
@@ -119,7 +126,7 @@ impl Coverage {
     }
 
     pub fn print(&self) {
-        for (number, count) in self.answers.iter().enumerate() {
+        for (number, count) in ANSWERS.iter().zip(self.answers) {
             println!("answer={number:<4} {count:>10}");
         }
         println!("int=1       {:>10}", self.int);
@@ -135,12 +142,13 @@ impl Coverage {
             println!("{case:<26} {count:>10}");
         }
         self.facts.print();
+        self.diodes.print();
     }
 
     /// What was never reached; nothing if all was.
     pub fn missing(&self) -> Vec<String> {
         let mut missing = Vec::new();
-        for (number, &count) in self.answers.iter().enumerate() {
+        for (number, count) in ANSWERS.iter().zip(self.answers) {
             if count == 0 {
                 missing.push(format!("answer={number}"));
             }
@@ -168,6 +176,7 @@ impl Coverage {
             }
         }
         missing.extend(self.facts.missing());
+        missing.extend(self.diodes.missing());
         missing
     }
 }
@@ -192,6 +201,8 @@ mod tests {
         assert_eq!((coverage.int, coverage.therm, coverage.fault), (1, 0, 0));
         assert_eq!((coverage.answers[0], coverage.answers[10]), (1, 1));
         assert_eq!(coverage.distinct_duties(), 2);
+        coverage.count(None, b"answer=13\nanswer=12\n");
+        assert_eq!((coverage.answers[12], coverage.events), (1, 3));
     }
 
     #[test]
@@ -229,6 +240,6 @@ mod tests {
 
     #[test]
     fn nothing_reached_is_missing() {
-        assert_eq!(Coverage::none().missing().len(), 146);
+        assert_eq!(Coverage::none().missing().len(), 243);
     }
 }

@@ -4,8 +4,8 @@ use second::keeper::Kind;
 use snezhulka::{Event, Outcome};
 use std::io::Write;
 
-const KINDS: [&str; 10] = [
-    "power", "write", "point", "read", "sample", "tach", "pin", "clock", "period", "alert",
+const KINDS: [&str; 11] = [
+    "power", "write", "point", "read", "sample", "tach", "pin", "clock", "period", "alert", "diode",
 ];
 const FIELDS: [&str; 7] = ["answer", "data", "int", "therm", "fault", "duty1", "duty2"];
 
@@ -63,7 +63,7 @@ fn put_outcome(report: &mut Vec<u8>, outcome: &Outcome) {
 
 /// An event as the second program takes it.
 pub fn second_event(&[kind, who, arg, val]: &Event) -> second::keeper::Event {
-    const KINDS: [Kind; 10] = [
+    const KINDS: [Kind; 11] = [
         Kind::Power,
         Kind::Write,
         Kind::Point,
@@ -74,6 +74,7 @@ pub fn second_event(&[kind, who, arg, val]: &Event) -> second::keeper::Event {
         Kind::Clock,
         Kind::Period,
         Kind::Alert,
+        Kind::Diode,
     ];
     second::keeper::Event {
         kind: KINDS[kind as usize],

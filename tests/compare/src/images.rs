@@ -38,7 +38,7 @@ pub fn proved_image(events: &[Event], index: u64) -> Image {
     let (count, length) = image_case(events.len(), index);
     let mut taken = events[..count].to_vec();
     if index.is_multiple_of(13) {
-        taken.push([10 + index as i32 % 5, 0, 0, 0]);
+        taken.push([11 + index as i32 % 5, 0, 0, 0]);
     }
     let mut buffer = vec![0xaa; length];
     (snezhulka::image(&taken, &mut buffer), buffer)

@@ -2,6 +2,7 @@
 
 pub mod alerts;
 pub mod coverage;
+pub mod diodes;
 pub mod events;
 pub mod explain;
 pub mod facts;

@@ -10,8 +10,8 @@ use std::io::Write;
 /// The longest trace text that is taken, in bytes.
 pub const LONGEST_TEXT: usize = 65_536;
 
-const KINDS: [&str; 10] = [
-    "power", "write", "point", "read", "sample", "tach", "pin", "clock", "period", "alert",
+const KINDS: [&str; 11] = [
+    "power", "write", "point", "read", "sample", "tach", "pin", "clock", "period", "alert", "diode",
 ];
 
 /// Every register address of the data sheet.

@@ -1,5 +1,6 @@
 //! The worked example and the bench cards of 01, and cards for its other rules.
 
+mod diodes;
 mod reasons;
 
 use crate::keeper::{Event, Keeper, Kind, Reply};
@@ -269,7 +270,8 @@ fn reset_with_the_pin_low() {
     bench.ev(Kind::Point, 45, 3, 0);
     assert_eq!(bench.ev(Kind::Read, 45, 0, 0).data, 0x21);
     assert_eq!(bench.ev(Kind::Read, 45, 0, 0).data, 0x20);
-    assert_eq!(bench.ev(Kind::Pin, 0, 0, 1).duty, [0, 0]);
+    // T-05: the pin drove both, the broken diode drives its fan still
+    assert_eq!(bench.ev(Kind::Pin, 0, 0, 1).duty, [0, 240]);
 }
 
 #[test]
@@ -433,6 +435,8 @@ fn malformed_text() {
     wrong("kind=clock", 1);
     wrong("kind=clocks\n", 1);
     wrong("kind=alerts\n", 1);
+    wrong("kind=diodes\n", 1);
+    wrong("kind=diod\n", 1);
     wrong("kind=clock\n", 2);
     wrong("kind=clock\nwho=0\narg=0\nval=0", 4);
     wrong("kind=clock\nwho=0\narg=0\nval=0\n\n", 5);

@@ -4,6 +4,7 @@
 mod acts;
 mod alerts;
 mod counts;
+mod diodes;
 mod fans;
 mod fields;
 mod image;
@@ -24,6 +25,7 @@ pub enum Kind {
     Clock,
     Period,
     Alert,
+    Diode,
 }
 
 #[derive(Clone, Copy, PartialEq, Eq, Debug)]

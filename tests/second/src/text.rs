@@ -96,7 +96,7 @@ impl<'a> Reader<'a> {
     }
 }
 
-// "kinds as above"; T-02 adds the last
+// "kinds as above"; T-02 and T-05 add one each
 fn kind(word: &[u8]) -> Option<Kind> {
     match word {
         b"power" => Some(Kind::Power),
@@ -109,6 +109,7 @@ fn kind(word: &[u8]) -> Option<Kind> {
         b"clock" => Some(Kind::Clock),
         b"period" => Some(Kind::Period),
         b"alert" => Some(Kind::Alert),
+        b"diode" => Some(Kind::Diode),
         _ => None,
     }
 }

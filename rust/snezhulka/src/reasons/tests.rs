@@ -33,6 +33,8 @@ fn every_reason_has_its_numbers() {
     assert_eq!(last(&spun), [Ok(Reason::Manual); 2]);
     let hot = [&short[..], &[monitored, [4, 1, 0, 400], CLOCK, CLOCK]].concat();
     assert_eq!(last(&hot), [Ok(Reason::Demand(1)), zero]);
+    let broken = [&short[..], &[[10, 2, 0, 1], CLOCK, CLOCK]].concat();
+    assert_eq!(last(&broken), [zero, Ok(Reason::Demand(2))]);
 }
 
 #[test]
@@ -53,7 +55,7 @@ fn no_reason_before_power_and_none_moved_by_a_refused_event() {
 
 #[test]
 fn reasons_end_where_a_kind_is_none() {
-    for kind in [-1, 10, i32::MIN, i32::MAX] {
+    for kind in [-1, 11, i32::MIN, i32::MAX] {
         let whys = reasons(&[POWER, CLOCK, [kind, 0, 0, 0], CLOCK]);
         assert_eq!(whys, [[Ok(Reason::NoTarget); 2]; 2], "kind {kind}");
     }

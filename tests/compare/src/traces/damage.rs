@@ -16,9 +16,10 @@ const TOO_FAR: [&str; 9] = [
     "340282366920938463463374607431768211500",
 ];
 
-const FOREIGN: [&[u8]; 9] = [
+const FOREIGN: [&[u8]; 10] = [
     b"val=00\n",
     b"kind=power\n",
+    b"kind=diodes\n",
     b"\n",
     b"val=-0\n",
     b"who=2147483648\n",

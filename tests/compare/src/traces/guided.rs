@@ -1,4 +1,7 @@
-//! Traces of a keeper that is set up and used: they reach latches, ramps, spin-ups, faults, resets and alerts.
+//! Traces of a keeper that is set up and used: they reach latches, ramps, spin-ups, faults, resets, alerts and diode
+//! errors.
+
+mod diodes;
 
 use super::{any_number, Text, KINDS, REGISTERS};
 use crate::random::Random;
@@ -9,8 +12,8 @@ const MODES: [i32; 9] = [0x11, 0x13, 0x91, 0x93, 0x93, 0xb3, 0xd3, 0xf3, 0xf3];
 /// The bit of 0x00 that enables INT.
 const INT_ENABLE: i32 = 0x02;
 
-/// What stays the same through one trace, and what was last written to 0x00, sampled, and written as its offset, on each
-/// channel.
+/// What stays the same through one trace; what was last written to 0x00; and on each channel the last sample, what was
+/// last written as its offset, and whether its diode is in error.
 struct Guide<'a> {
     random: &'a mut Random,
     text: Text,
@@ -23,6 +26,7 @@ struct Guide<'a> {
     mode: i32,
     samples: [i32; 3],
     offsets: [i32; 3],
+    broken: [bool; 3],
 }
 
 /// One trace of up to `most` steps, most of them one event, some a few.
@@ -42,10 +46,14 @@ pub fn guided(random: &mut Random, most: usize) -> Vec<u8> {
         mode: 0x90,
         samples: [start; 3],
         offsets: [0; 3],
+        broken: [false; 3],
         text: Text::new(),
         random,
     };
-    guide.power(20);
+    guide.power(6);
+    if guide.random.percent(8) {
+        guide.diode();
+    }
     guide.set_up_control();
     guide.set_up_limits();
     guide.set_up_offsets();
@@ -74,6 +82,7 @@ impl Guide<'_> {
         let first = i32::from(self.random.percent(errors));
         let second = i32::from(self.random.percent(errors));
         self.text.add("power", self.address, first, second);
+        self.after_power([first, second]);
     }
 
     fn set_up_control(&mut self) {
@@ -157,7 +166,7 @@ impl Guide<'_> {
     }
 
     /// How often each step comes, in the order of `step`.
-    fn weights(&mut self) -> [usize; 12] {
+    fn weights(&mut self) -> [usize; 13] {
         [
             self.random.pick(&[20, 60, 120]),
             self.random.pick(&[20, 80]),
@@ -170,11 +179,13 @@ impl Guide<'_> {
             self.random.pick(&[0, 0, 1]),
             self.random.pick(&[0, 10, 30]),
             self.random.pick(&[0, 0, 6, 25]),
+            self.random.pick(&[0, 0, 4, 15]),
             self.random.pick(&[0, 2]),
         ]
     }
 
     fn step(&mut self, weights: &[usize]) {
+        self.mend_some();
         match self.random.weighted(weights) {
             0 => self.sample(),
             1 => self
@@ -193,6 +204,7 @@ impl Guide<'_> {
             8 => self.restart(),
             9 => self.offset(),
             10 => self.alert(),
+            11 => self.diode(),
             _ => self.odd(),
         }
     }
@@ -263,7 +275,7 @@ impl Guide<'_> {
 
     /// What may bring INT back, or must not.
     fn after_alert(&mut self) {
-        match self.random.weighted(&[6, 3, 3, 3, 3, 1, 1, 10]) {
+        match self.random.weighted(&[6, 3, 3, 3, 3, 1, 1, 2, 10]) {
             0 => self.sample_again(),
             1 => self.collect(),
             2 => {
@@ -274,6 +286,7 @@ impl Guide<'_> {
             4 => self.toggle_channel(),
             5 => self.restart(),
             6 => self.text.add("pin", 0, 0, self.random.between(0, 1)),
+            7 => self.diode_after_alert(),
             _ => {}
         }
     }
@@ -336,11 +349,14 @@ impl Guide<'_> {
             .add_times(self.random.pick(&[1, 2]), "read", self.address, 0, 0);
     }
 
-    /// Power, or a software reset; most often monitoring goes on.
+    /// Power, or a software reset, some with an error just found; most often monitoring goes on.
     fn restart(&mut self) {
+        if self.random.percent(15) {
+            self.diode();
+        }
         let reset = self.random.between(0x80, 0xff);
         match self.random.percent(50) {
-            true => self.power(50),
+            true => self.power(25),
             false => self.write(0x01, reset),
         }
         if self.random.percent(80) {

@@ -17,25 +17,26 @@ impl Keeper {
             Kind::Clock => self.count_down(),
             Kind::Period => {}
             Kind::Alert => self.alert(),
+            Kind::Diode => self.diode(e.who as usize, e.val == 1),
         }
         0
     }
 
-    // "Power always starts afresh"; bit 5 of a status register: temperatures 5
+    // "Power always starts afresh"; bit 5 of a status register: T-05
     pub(super) fn power(&mut self, address: i32, error_1: bool, error_2: bool) {
         *self = Keeper::new();
         self.powered = true;
         self.address = address;
         self.regs = reset_bytes();
-        self.put_bit(STATUS_1, 5, error_1);
-        self.put_bit(STATUS_2, 5, error_2);
+        self.diode(1, error_1);
+        self.diode(2, error_2);
     }
 
-    // temperatures 9
+    // temperatures 9; errors found in service stay too
     pub(super) fn software_reset(&mut self) {
         let pin_low = self.pin_low;
-        let error_1 = self.bit(STATUS_1, 5);
-        let error_2 = self.bit(STATUS_2, 5);
+        let error_1 = self.diode_error(1);
+        let error_2 = self.diode_error(2);
         self.power(self.address, error_1, error_2);
         self.pin_low = pin_low;
         self.pointer = CONFIG_2;
@@ -71,7 +72,7 @@ impl Keeper {
         }
     }
 
-    // temperatures 5
+    // temperatures 5: a read clears no diode error
     pub(super) fn read(&mut self) -> u8 {
         let byte = self.regs[self.pointer];
         if self.pointer == STATUS_1 || self.pointer == STATUS_2 {

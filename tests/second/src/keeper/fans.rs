@@ -69,8 +69,11 @@ impl Keeper {
         }
     }
 
-    // duty 2
+    // duty 2; T-05: "while a remote diode is in error, its demand .. is 240 and its run flag has no say"
     pub fn demand(&self, channel: usize, fan: usize) -> i32 {
+        if self.diode_error(channel) {
+            return 240;
+        }
         if !self.run_flag[channel] {
             return 0;
         }

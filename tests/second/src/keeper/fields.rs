@@ -94,6 +94,16 @@ impl Keeper {
         }
     }
 
+    // temperatures 2
+    pub fn latch_on(&self, channel: usize) -> bool {
+        self.latch[channel]
+    }
+
+    // duty 1
+    pub fn flag_on(&self, channel: usize) -> bool {
+        self.run_flag[channel]
+    }
+
     // the stored reading in eighths: temperatures 1 read backwards
     pub fn reading(&self, channel: usize) -> i32 {
         let extended = self.regs[EXTENDED];

@@ -25,10 +25,12 @@ impl Keeper {
             Kind::Clock => refuse_if(e.who != 0 || e.arg != 0 || e.val != 0, 6),
             Kind::Period if !fan_exists(e.who) => 3,
             Kind::Period => refuse_if(e.arg != 0 || e.val != 0, 6),
+            Kind::Diode if !remote_exists(e.who) => 3,
+            Kind::Diode => refuse_if(e.arg != 0 || !bit_value(e.val), 6),
         }
     }
 
-    // replies 3, 6, 8, 9
+    // replies 3, 6, 8, 9, and 13 of T-05: a sample of a channel in error
     pub(super) fn refuse_sample(&self, e: Event) -> u8 {
         if !(0..=2).contains(&e.who) {
             3
@@ -36,8 +38,10 @@ impl Keeper {
             6
         } else if e.who == 0 && e.val % 2 != 0 {
             8
+        } else if !self.monitoring() {
+            9
         } else {
-            refuse_if(!self.monitoring(), 9)
+            refuse_if(self.diode_error(e.who as usize), 13)
         }
     }
 
@@ -81,6 +85,11 @@ fn refuse_if(refused: bool, number: u8) -> u8 {
 
 fn bit_value(number: i32) -> bool {
     number == 0 || number == 1
+}
+
+// reply 3, T-05: the local channel has no diode error
+fn remote_exists(who: i32) -> bool {
+    (1..=2).contains(&who)
 }
 
 // reply 3
