@@ -6,7 +6,7 @@ from command.registers import (CHARACTERISTICS, CONFIG2, HIGH, LOW, OFFSETS, REG
                                channel_enabled, degrees, offset_degrees, tach_enabled)
 
 # what: refused, power, reset, status (part: register, value: byte), high, low (channel, limit), over (fan, count), failed (fan, count),
-# offset (channel, degrees: at a sample, other than 0), alert (value: whether it lets INT go)
+# offset (channel, degrees: at a sample, other than 0), alert (value: whether it lets INT go), diode (channel, whether that is news)
 Mark = collections.namedtuple("Mark", "what part value", defaults=(None, None))
 AFTER_POWER = {address: register.reset for address, register in REGISTERS.items()}
 RELEASE = 5  # degrees under its limit, where a THERM latch lets go
@@ -16,13 +16,14 @@ LEAST, MOST = -1024, (1022, 1023, 1023)  # readings of the channels, in eighths;
 @dataclasses.dataclass(frozen=True)
 class Chip:
     """Readings are in eighths, None before the first sample; samples those they were made of, None where no offset stood at them;
-    asserted is INT; spins are the clock events that remain of the spin-ups."""
+    errors are the channels whose diode is in error; asserted is INT; spins are the clock events that remain of the spin-ups."""
 
     registers: dict = dataclasses.field(default_factory=lambda: AFTER_POWER)
     pointer: int = 0
     readings: tuple = (None, None, None)
     samples: tuple = (None, None, None)
     latches: tuple = (False, False, False)
+    errors: tuple = (False, False, False)
     pin_low: bool = False
     asserted: bool = False
     duties: tuple = (0, 0)
@@ -42,12 +43,12 @@ def put(values, place, value):
 
 
 def start(chip, event):
-    return Chip(clocks=chip.clocks, marks=(Mark("power"),))
+    return Chip(errors=(False, event.arg == 1, event.val == 1), clocks=chip.clocks, marks=(Mark("power"),))
 
 
 def write(chip, event):
     if event.arg == CONFIG2 and event.val & RESET_BIT:
-        return Chip(pointer=CONFIG2, pin_low=chip.pin_low, clocks=chip.clocks, marks=(Mark("reset"),))
+        return Chip(pointer=CONFIG2, errors=chip.errors, pin_low=chip.pin_low, clocks=chip.clocks, marks=(Mark("reset"),))
     mask = REGISTERS[event.arg].mask
     byte = event.val & mask | chip.registers[event.arg] & ~mask
     return dataclasses.replace(chip, registers={**chip.registers, event.arg: byte}, pointer=event.arg)
@@ -83,6 +84,13 @@ def tach(chip, event):
     return dataclasses.replace(chip, marks=(Mark("failed" if judged else "over", fan, event.val),))
 
 
+def diode(chip, event):
+    """Reading and latch of the channel stay as they are."""
+    error = event.val == 1
+    mark = Mark("diode", event.who, error != chip.errors[event.who])
+    return dataclasses.replace(chip, errors=put(chip.errors, event.who, error), marks=(mark,))
+
+
 ACCEPTED = {
     "power": start,
     "write": write,
@@ -94,6 +102,7 @@ ACCEPTED = {
     "clock": lambda chip, event: dataclasses.replace(chip, clocks=chip.clocks + 1),
     "period": lambda chip, event: chip,
     "alert": lambda chip, event: dataclasses.replace(chip, marks=(Mark("alert", value=chip.asserted),)),
+    "diode": diode,
 }
 
 

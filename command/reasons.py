@@ -46,9 +46,17 @@ class Reason(collections.namedtuple("Reason", "what more")):
             return target - left if way == "up" else target + left
         return 0 if self.what in STANDS else FULL if self.what in RUNS_FULL else None
 
-    def named(self):
+    def by_error(self, chip):
+        """Whether it is the demand of a channel whose diode is in error."""
+        return self.what == "demand" and chip.errors[self.channel()]
+
+    def first(self, chip):
+        """The first word; `diode` in place of `demand` where an error is all the cause."""
+        return "diode" if self.by_error(chip) else self.what
+
+    def named(self, chip):
         """With the channel's name in place of its number."""
-        return f"{self.what} {CHANNELS[self.channel()]}" if self.what in OF_CHANNEL else self.words()
+        return " ".join((self.first(chip), CHANNELS[self.channel()])) if self.what in OF_CHANNEL else self.words()
 
 
 def reason_of(fan, line):

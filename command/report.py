@@ -7,7 +7,8 @@ from command.status import BUILD, Failure
 from command.trace import in_range, records, value_of
 
 Shown = collections.namedtuple("Shown", "answer data int therm fault duty1 duty2")
-RANGES = dict(zip(Shown._fields, (range(10), range(256), range(2), range(2), range(2), range(241), range(241))))
+ANSWERS = (*range(10), 13)  # to an event
+RANGES = dict(zip(Shown._fields, (ANSWERS, range(256), range(2), range(2), range(2), range(241), range(241))))
 TOO_LONG = b"answer=11\n"
 FULL = 240  # slots
 LINES = {"int": "INT", "therm": "THERM", "fault": "FAN_FAULT"}

@@ -40,16 +40,16 @@ def lines_words(shown, known):
     return " ".join(words).rstrip() or "."
 
 
-def short(reason):
-    """The program's words; on the ramp the way and the target alone, for the duty stands beside it."""
-    return f"{reason.ramp()[1]} {reason.ramp()[2]}" if reason.what == "ramp" else reason.words()
+def short(reason, chip):
+    """The number of the channel, as the program has it; on the ramp the way and the target alone, for the duty stands beside it."""
+    return " ".join(reason.more[1:] if reason.what == "ramp" else (reason.first(chip), *reason.more))
 
 
 def rows_of(all_told, reason_words):
     """The rows but for the events' words, which depend on the room; no reason, before power, is a dot."""
     known = [field for field in LINES if any(getattr(shown, field) for _, _, shown, _, _ in all_told)]
-    for number, event, shown, _, reasons in all_told:
-        one, two = map(reason_words, reasons) if reasons else ".."
+    for number, event, shown, chip, reasons in all_told:
+        one, two = (reason_words(reason, chip) for reason in reasons) if reasons else ".."
         duties = (duty_words(shown.duty1), one, duty_words(shown.duty2), two)
         yield [str(number), "", reply_words(event, shown), lines_words(shown, known), *duties]
 

@@ -8,7 +8,7 @@ import sys
 from command.status import USE, Failure
 
 Event = collections.namedtuple("Event", "kind who arg val")
-KINDS = "power write point read sample tach pin clock period alert".split()
+KINDS = "power write point read sample tach pin clock period alert diode".split()
 LONGEST = 65_536  # bytes
 WORD = range(-(2**31), 2**31)
 DECIMAL = re.compile("0|-?[1-9][0-9]{0,9}")
@@ -26,6 +26,7 @@ RANGES = {  # of who, arg and val in an event that can be accepted
     "clock": (NOTHING, NOTHING, NOTHING),
     "period": (range(1, 3), NOTHING, NOTHING),
     "alert": (BUS, NOTHING, NOTHING),
+    "diode": (range(1, 3), NOTHING, range(2)),
 }
 
 

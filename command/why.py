@@ -46,7 +46,8 @@ def therm(fan, reason, chip):
     channel = reason.channel()
     ends = celsius(chip.limit(THERM, channel) - RELEASE)
     latch = f"the THERM latch of channel {CHANNELS[channel]} is on"
-    return f"runs at full speed because {latch}: it reads {reads(chip, channel)}, and only a reading below {ends} lets go"
+    then, when = ("last read", ", once its diode is mended") if chip.errors[channel] else ("reads", "")
+    return f"runs at full speed because {latch}: it {then} {reads(chip, channel)}, and only a reading below {ends} lets go{when}"
 
 
 def zero(fan, reason, chip):
@@ -65,6 +66,8 @@ def ramp(fan, reason, chip):
 
 def demand(fan, reason, chip):
     channel = reason.channel()
+    if reason.by_error(chip):
+        return f"{runs(fan, chip)} because channel {CHANNELS[channel]}, whose diode is in error, asks for that whatever it reads"
     return f"{runs(fan, chip)} because channel {CHANNELS[channel]}, which reads {reads(chip, channel)}, asks for that"
 
 

@@ -9,20 +9,20 @@ REPLIES = {  # to an event; 10 and 11 are given to a text, 12 to a row of alert 
     0: "done",
     1: "no power yet",
     2: "not our address",
-    3: "no such channel or fan",
+    3: "no such channel, fan or diode",
     4: "no such register",
     5: "read-only register",
     6: "out of range",
     7: "no such range code",
     8: "odd local sample",
     9: "monitoring is off",
+    13: "diode in error",
 }
+PARTS = {"sample": "channel", "diode": "diode"}  # what there is not, of an event that gets 3; else a fan
 
 
 def reply_words(event, shown):
-    if shown.answer == 3:
-        return "no such channel" if event.kind == "sample" else "no such fan"
-    return REPLIES[shown.answer]
+    return f"no such {PARTS.get(event.kind, 'fan')}" if shown.answer == 3 else REPLIES[shown.answer]
 
 
 def percent(slots):
@@ -80,6 +80,13 @@ def alert(event, shown, chip):
     return "alert, INT let go" if Mark("alert", value=True) in chip.marks else "alert, INT not asserted"
 
 
+def diode(event, shown, chip):
+    words = "error found" if event.val else "mended"
+    if Mark("diode", event.who, False) in chip.marks:
+        words = f"{'in error' if event.val else 'sound'} as it was"
+    return f"diode {CHANNELS[event.who]}, {words}"
+
+
 WORDS = {
     "power": power,
     "write": write,
@@ -91,6 +98,7 @@ WORDS = {
     "clock": lambda event, shown, chip: "clock 0.1 s",
     "period": lambda event, shown, chip: f"period fan {event.who}",
     "alert": alert,
+    "diode": diode,
 }
 
 

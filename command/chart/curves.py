@@ -54,8 +54,9 @@ def ground(style, panel):
         yield words_at(LEFT - 8, panel.y(tick) + 4, str(tick), "end")
 
 
-def curves(plot, panel, lines):
-    """Each line is a style, a name, the values after the events and the words of a value."""
-    for style, _, values, _ in lines:
-        yield path(style, plot.steps(values, panel.y))
+def curves(plot, panel, lines, hints=()):
+    """Each line is a style, a name, the values after the events and the words of a value; hints are by the first word of a style."""
+    for style, name, values, _ in lines:
+        hint = dict(hints).get(style.split()[0])
+        yield path(style, plot.steps(values, panel.y), f"{name}: {hint}" if hint else "")
     yield from names(panel, lines)

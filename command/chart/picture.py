@@ -3,6 +3,7 @@ import html
 import re
 import textwrap
 
+from command.chart import diodes
 from command.chart.curves import Panel, curves, ground
 from command.chart.reasons import reason_strips
 from command.chart.rows import axis, line_bands, mark_rows, spin_bands
@@ -40,8 +41,8 @@ def guides(plot, chips, bodies):
 def drawn(case, chips):
     """The elements of the panels and rows, and where they end. A part gives its elements, the places in it that guides go through, its end."""
     plot, elements, bodies, y = Plot(len(chips)), [], [], TOP
-    parts = [(temperatures, chips), (duties, case.shown), (reason_strips, after_each(case))]
-    parts += [(line_bands, case.shown, chips), (spin_bands, chips), (mark_rows, chips)]
+    parts = [(temperatures, chips), (duties, case.shown), (reason_strips, after_each(case), chips)]
+    parts += [(line_bands, case.shown, chips), *[(diodes.error_bands, chips)] * bool(diodes.broken(chips)), (spin_bands, chips), (mark_rows, chips)]
     for part, *given in parts:
         more, through, bottom = part(plot, y, *given)
         elements, bodies, y = elements + more, bodies + through, bottom + GAP
@@ -79,7 +80,7 @@ def picture(title, case):
     height = round(bottom + 8)
     return "\n".join(filter(None, (
         f'<svg xmlns="http://www.w3.org/2000/svg" viewBox="0 0 {WIDTH} {height}" width="{WIDTH}" height="{height}" role="img">',
-        f"<title>{html.escape(title)}</title><style>{STYLE}</style>",
+        f"<title>{html.escape(title)}</title><style>{STYLE}{diodes.STYLE * bool(diodes.broken(chips))}</style>",
         f'<rect class="paper" width="{WIDTH}" height="{height}"/>',
         words_at(LEFT, 28, title if len(title) <= 80 else title[:79] + "…", "title"),
         words_at(LEFT, 47, f"{len(chips):,} event{'s' * (len(chips) != 1)}{seconds}", "subtitle", offset_words(chips)),

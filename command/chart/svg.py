@@ -55,6 +55,11 @@ def stretches(values):
         yield value, start, place
 
 
+def events_words(start, end):
+    """The events that a stretch is of."""
+    return f"event {end}" if end - start == 1 else f"events {start + 1} to {end}"
+
+
 def short(number):
     return f"{round(number, 2):g}"
 

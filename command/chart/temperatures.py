@@ -1,4 +1,5 @@
-"""The panel of the temperatures: readings, samples with an offset, THERM limits and their latches, high and low limits that set a bit."""
+"""The panel of the temperatures: readings, samples with an offset, THERM limits and their latches, high and low limits that set a bit.
+While a diode is in error its channel's reading is a line of its own: it is kept, and no measurement."""
 from command.chart.curves import Panel, curves, ground, rounded_out
 from command.chart.svg import HEADING, LEFT, path, short, stretches, words_at
 from command.history import RELEASE
@@ -7,6 +8,7 @@ from command.registers import CHANNELS, HIGH, LOW, THERM
 TALL = 236
 LIMITS = {"high": HIGH, "low": LOW}
 STYLES = [name.replace(" ", "") for name in CHANNELS]
+HINTS = {"kept": "the last reading before its diode was in error"}  # for a reader who points at such a line
 
 
 def degree_words(value):
@@ -25,6 +27,11 @@ def readings_of(chips, channel):
     return in_degrees(chip.readings[channel] for chip in chips)
 
 
+def while_error(chips, channel, values, error):
+    """Values only where the channel's diode is in error, or only where it is not."""
+    return [value if chip.errors[channel] == error else None for value, chip in zip(values, chips)]
+
+
 def limits_of(chips, limits, channel):
     """A limit while its channel has a reading: before that nothing is held to it."""
     return [None if chip.readings[channel] is None else chip.limit(limits, channel) for chip in chips]
@@ -34,14 +41,19 @@ def lines_of(chips):
     """The lines of the channels that have a reading; high and low limits only where they set a bit, samples only where an offset stood."""
     marks = {(mark.what, mark.part) for chip in chips for mark in chip.marks}
     for channel, (name, style) in enumerate(zip(CHANNELS, STYLES)):
-        if set(readings_of(chips, channel)) != {None}:
+        readings = readings_of(chips, channel)
+        if set(readings) != {None}:
             yield line(f"limit {style}", f"{name} THERM limit", limits_of(chips, THERM, channel))
             for what, limits in LIMITS.items():
                 if (what, channel) in marks:
                     yield line(f"{what} {style}", f"{name} {what} limit", limits_of(chips, limits, channel))
             if ("offset", channel) in marks:
-                yield line(f"sample {style}", f"{name} sample", in_degrees(chip.samples[channel] for chip in chips))
-            yield line(f"reading {style}", name, readings_of(chips, channel))
+                samples = in_degrees(chip.samples[channel] for chip in chips)
+                yield line(f"sample {style}", f"{name} sample", while_error(chips, channel, samples, False))
+            yield line(f"reading {style}", name, while_error(chips, channel, readings, False))
+            kept = while_error(chips, channel, readings, True)
+            if set(kept) != {None}:
+                yield line(f"kept {style}", f"{name}, kept", kept)
 
 
 def holds(plot, panel, chips, channel):
@@ -86,7 +98,7 @@ def temperatures(plot, top, chips):
     panel = Panel(top + HEADING, TALL, *rounded_out(min(seen, default=1) - 0.25, max(seen, default=99) + 0.25, 8))
     elements = [words_at(LEFT, top, "Temperatures in °C", "heading", "; ".join(legend(lines, chips))), *ground("temperatures", panel)]
     elements += [path(f"hold {style}", "".join(holds(plot, panel, chips, channel))) for channel, style in enumerate(STYLES)]
-    elements += curves(plot, panel, lines)
+    elements += curves(plot, panel, lines, HINTS)
     for channel, style in enumerate(STYLES):
         elements += [path(f"set {style} {what}bit", "".join(triangles(plot, panel, chips, what, channel))) for what in LIMITS]
     return elements, [(panel.top, panel.bottom)], panel.bottom
