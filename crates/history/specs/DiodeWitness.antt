@@ -19,7 +19,7 @@ use Rattle.history.specs.ReasonWitness.{Tells}
 abbrev pub poweredBroken : History
 poweredBroken = power (pos 44) (pos 1) (pos 0) ∷ []
 
--- power at address 44, spin-ups of 2 clocks (0x20, 0x21), the minimum codes 0 (0x22); monitoring is off; remote 2's diode is found in error
+-- power at address 44, spin-ups of 2 clocks (0x20, 0x21), the minimum codes 0 (0x22); monitoring is off. Then the diode of remote 2 is found in error
 abbrev pub plain44 : History
 plain44 =
     write (pos 44) (pos 0x22) (pos 0x00) ∷ write (pos 44) (pos 0x21) (pos 0x58) ∷ write (pos 44) (pos 0x20) (pos 0x58)
@@ -46,7 +46,7 @@ statusRead = read (pos 44) (pos 0) (pos 0) ∷ point (pos 44) (pos 0x02) (pos 0)
 abbrev pub summerReset : History
 summerReset = write (pos 44) (pos 0x01) (pos 0x80) ∷ summer
 
--- remote 1 at 49 degrees, one above its Tmin, the filters on (0x23), twoTenths up and at its target of 16 slots; then its diode is found in error
+-- remote 1 at 49 degrees, one above its Tmin, the filters on (0x23), spun up and at its target of 16 slots; then its diode is found in error
 abbrev pub summerRamp : History
 summerRamp = reported Remote1 (pos 1) ∷ write (pos 44) (pos 0x23) (pos 0x53) ∷ (twoTenths ++ (sampled Remote1 (pos 392) ∷ cool21))
 
@@ -54,7 +54,7 @@ summerRamp = reported Remote1 (pos 1) ∷ write (pos 44) (pos 0x23) (pos 0x53) �
 abbrev pub alertedWarm : History
 alertedWarm = alert (pos 44) (pos 0) (pos 0) ∷ sampled Local (pos 488) ∷ write (pos 44) (pos 0x00) (pos 0x93) ∷ plain44
 
--- all three channels to both fans (0x00): local at 48 degrees demands 240 too
+-- all three channels to both fans (0x00); local at 56 degrees demands 240 too; spun up
 abbrev pub sharedWarm : History
 sharedWarm = twoTenths ++ (sampled Local (pos 448) ∷ write (pos 44) (pos 0x00) (pos 0xF1) ∷ summer)
 
