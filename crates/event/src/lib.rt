@@ -1,4 +1,4 @@
-// The vocabulary of the chip's border: the events that it takes, the answers that it gives, the outputs that it shows, the reasons for them.
+// The vocabulary of the chip's border: the events that it takes, the answers that it gives, the outputs that it shows, the reasons for them, the panel.
 // Nothing here acts; every crate above speaks in these terms.
 use part::ChannelId;
 ghost use mathlib.Core.Path.{_≡_};
@@ -268,5 +268,27 @@ pub enum Reason {
 // What is told of a fan: a reason, or why there is none.
 pub enum Why {
     Because(Reason),
+    Refused(Refusal),
+}
+
+// The speed of a fan on a panel (T-06 of document 02), by its count: 0, 255, or any other, which gives revolutions a minute.
+pub enum FanSpeed {
+    NotMeasured,
+    Stalled,
+    Speed(f64),
+}
+
+// The temperatures in degrees, and the speeds of both fans.
+pub struct Panel {
+    pub local: f64,
+    pub remote1: f64,
+    pub remote2: f64,
+    pub fan1: FanSpeed,
+    pub fan2: FanSpeed,
+}
+
+// What is told of a keeper: its panel, or why there is none.
+pub enum Paneled {
+    Panel(Panel),
     Refused(Refusal),
 }

@@ -111,13 +111,13 @@ module _ (h : History) (d : Taken) (is : taken h ≡ d) where
   fault-is One = rw is (bit-1 _ _ _ _ _ _ _ _)
   fault-is Two = rw is (bit-1 _ _ _ _ _ _ _ _)
 
-  spin-up-byte : (f : FanId) → register (byFan 0x20 0x21 f) h ≡ storedAt (characteristicsAt f) d
+  pub characteristics-is : (f : FanId) → register (byFan 0x20 0x21 f) h ≡ storedAt (characteristicsAt f) d
   unfolding value byteAt existsAt
-  spin-up-byte One = rw is
-  spin-up-byte Two = rw is
+  characteristics-is One = rw is
+  characteristics-is Two = rw is
 
   pub spin-up-is : (f : FanId) → spinUpFigure f h ≡ spinUpClocks f d
-  spin-up-is f = rw spin-up-byte (spin-up-of _)
+  spin-up-is f = rw characteristics-is (spin-up-of _)
 
   pub rate-is : rateFigure h ≡ rate d
   unfolding rateOf value byteAt existsAt

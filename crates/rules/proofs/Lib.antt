@@ -45,4 +45,7 @@ pub mod ReasonFactLaws
 pub mod PageReasonsLaws
 pub mod BrokenLaws
 pub mod PageDiodesLaws
+pub mod NearestLaws
+pub mod FloatLaws
+pub mod PagePanelLaws
 pub mod PageLaws

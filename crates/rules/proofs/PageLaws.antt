@@ -11,6 +11,7 @@ use Rattle.rules.proofs.PageAlertsLaws.{page-alerts}
 use Rattle.rules.proofs.PageAlertRowLaws.{page-alert-row}
 use Rattle.rules.proofs.PageReasonsLaws.{page-reasons}
 use Rattle.rules.proofs.PageDiodesLaws.{page-diodes}
+use Rattle.rules.proofs.PagePanelLaws.{page-panel}
 
 pub page : (h : History) → Page h
 page h =
@@ -25,4 +26,5 @@ page h =
       alertRow = page-alert-row;
       reasons = page-reasons h;
       diodes = page-diodes h;
+      panel = page-panel h;
     }

@@ -44,9 +44,12 @@ offsetDegrees byte = byte % 16
 abbrev pub offsetSubtracts : ℕ → Bool
 offsetSubtracts byte = bitOf byte 7
 
--- 0x20, 0x21 (Table 9): the spin-up code 2:0
+-- 0x20, 0x21 (Tables 23, 24): the spin-up code 2:0 (Table 9), the code of the speed range 7:6 (Table 15)
 abbrev pub spinUpCode : ℕ → ℕ
 spinUpCode byte = byte % 8
+
+abbrev pub speedRange : ℕ → ℕ
+speedRange byte = byte / 64
 
 -- 0x22 (Table 25): speed codes, fan 1 in 3:0, fan 2 in 7:4
 abbrev pub speedCode : FanId → ℕ → ℕ

@@ -10,6 +10,8 @@ pub mod Duties
 pub mod Shows
 pub mod AlertRow
 pub mod Reasons
+pub mod Panels
+pub mod Floats
 pub mod PageWords
 pub mod PageReplies
 pub mod PageTemperatures
@@ -20,4 +22,5 @@ pub mod PageAlerts
 pub mod PageAlertRow
 pub mod PageReasons
 pub mod PageDiodes
+pub mod PagePanel
 pub mod Page

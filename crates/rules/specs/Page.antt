@@ -1,4 +1,4 @@
--- The page: every sentence of document 01, and of T-01, T-02, T-03 and T-05 of document 02, that says what the chip does, a second time,
+-- The page: every sentence of document 01, and of T-01, T-02, T-03, T-05 and T-06 of document 02, that says what the chip does, a second time,
 -- over events with their numbers and over what a user sees.
 use mathlib.Core.List.{List}
 use Rattle.event.specs.declared.AlertEntry.{AlertEntry}
@@ -12,6 +12,7 @@ use Rattle.rules.specs.PageAlerts.{PageAlerts}
 use Rattle.rules.specs.PageAlertRow.{PageAlertRow}
 use Rattle.rules.specs.PageReasons.{PageReasons}
 use Rattle.rules.specs.PageDiodes.{PageDiodes}
+use Rattle.rules.specs.PagePanel.{PagePanel}
 
 pub record Page (h : History) : Type 0 where
   pub replies : PageReplies h
@@ -24,3 +25,4 @@ pub record Page (h : History) : Type 0 where
   pub alertRow : (row : List AlertEntry) → PageAlertRow row
   pub reasons : PageReasons h
   pub diodes : PageDiodes h
+  pub panel : PagePanel h
