@@ -41,6 +41,7 @@ use Rattle.keeper.specs.declared.Keeper.{Keeper}
 use Rattle.keeper.specs.declared.Keeper.the-variants.{Off, On}
 use Rattle.keeper.specs.declared.Outcome.{Outcome}
 use Rattle.reason.specs.Reasoning.{whyOf}
+use Rattle.gauge.specs.Gauges.{paneledOf}
 use Rattle.history.specs.Agreement.{run, Agreement}
 use Rattle.history.proofs.State.{portBy, channelRegistersBy, fanRegistersBy, registersBy, contextBy, channelBy, channelsBy, fanBy, chipBy}
 use Rattle.history.proofs.State.{deviceBy, stateBy}
@@ -51,6 +52,7 @@ use Rattle.history.proofs.StepLaws.{where-on, port-is, registers-is, ch
 use Rattle.history.proofs.FanLaws.{fan-is}
 use Rattle.history.proofs.ValueLaws.{value-is, due-is, shown-on, status-is}
 use Rattle.history.proofs.ReasonLaws.{why-is}
+use Rattle.history.proofs.PanelLaws.{panel-is}
 
 -- ---- one event
 
@@ -177,4 +179,5 @@ agreement h =
       image = λ buffer. ap (λ (k : Keeper). keeping.imageAnswer k buffer) (agree h) ∙ image-is (taken h) buffer;
       buffer = λ buffer. ap (λ (k : Keeper). keeping.imageBuffer k buffer) (agree h) ∙ buffer-is (took h) buffer;
       why = λ fan. ap (λ (k : Keeper). whyOf k fan) (agree h) ∙ why-is (taken h) fan;
+      panel = ap paneledOf (agree h) ∙ panel-is (taken h);
     }

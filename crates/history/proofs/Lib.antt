@@ -4,6 +4,7 @@ pub mod HeldLaws
 pub mod StepLaws
 pub mod FanLaws
 pub mod ReasonLaws
+pub mod PanelLaws
 pub mod ValueLaws
 pub mod Agree
 pub mod Demand1Laws
@@ -20,5 +21,6 @@ pub mod CountsLaws
 pub mod AlertWitnessLaws
 pub mod ReasonWitnessLaws
 pub mod DiodeWitnessLaws
+pub mod PanelWitnessLaws
 pub mod WitnessLaws
 pub mod Proved

@@ -28,6 +28,7 @@ use Rattle.history.proofs.StillTargetLaws as still
 use Rattle.history.proofs.AlertWitnessLaws.{alert-witness}
 use Rattle.history.proofs.ReasonWitnessLaws.{reason-witness}
 use Rattle.history.proofs.DiodeWitnessLaws.{diode-witness}
+use Rattle.history.proofs.PanelWitnessLaws.{panel-witness}
 
 -- a stretch by one test that computes
 aims : FanId → (a b : ℕ) → History → Bool
@@ -109,4 +110,5 @@ witness =
       alerts = alert-witness;
       reasons = reason-witness;
       diodes = diode-witness;
+      panels = panel-witness;
     }

@@ -7,17 +7,19 @@ use Rattle.event.specs.declared.Event.{Event}
 use Rattle.rules.specs.Replies.{History, taken}
 use Rattle.rules.specs.Shows.{shown, answer, imageReply, imageHeld}
 use Rattle.rules.specs.Reasons.{whyFor}
+use Rattle.rules.specs.Panels.{panelFor}
 use Rattle.keeper.specs.Keeping.{outcomeOf, shownBy, imageAnswer, imageBuffer}
 use Rattle.keeper.specs.declared.Keeper.{Keeper}
 use Rattle.keeper.specs.declared.Keeper.the-variants.{Off}
 use Rattle.reason.specs.Reasoning.{whyOf}
+use Rattle.gauge.specs.Gauges.{paneledOf}
 
 -- each event gets the keeper that the one before it left
 unfoldable pub run : History → Keeper
 run [] = Off
 run (e ∷ h) = (outcomeOf (run h) e) .keeper
 
--- for every list: answers, outputs, register image and what is told of a fan (T-03) are those of the rules
+-- for every list: answers, outputs, register image, what is told of a fan (T-03) and the panel (T-06) are those of the rules
 pub record Agreement (h : History) : Type 0 where
   pub answers : (e : Event) → (outcomeOf (run h) e) .answer ≡ answer e h
   pub outputs : (e : Event) → (outcomeOf (run h) e) .shown ≡ shown (taken (e ∷ h))
@@ -25,3 +27,4 @@ pub record Agreement (h : History) : Type 0 where
   pub image : (buffer : List ℕ) → imageAnswer (run h) buffer ≡ imageReply buffer (taken h)
   pub buffer : (buffer : List ℕ) → imageBuffer (run h) buffer ≡ imageHeld buffer (taken h)
   pub why : (fan : ℤ) → whyOf (run h) fan ≡ whyFor fan (taken h)
+  pub panel : paneledOf (run h) ≡ panelFor (taken h)

@@ -9,6 +9,7 @@ pub mod Counts
 pub mod AlertWitness
 pub mod ReasonWitness
 pub mod DiodeWitness
+pub mod PanelWitness
 pub mod Diodes
 pub mod Witness
 pub mod Proved

@@ -1,5 +1,5 @@
 -- Demand 3 and T-13 speak of something: lists whose stretch meets every premise, with a gap and periods above 0. So do T-01: samples under offsets,
--- T-02: alerts, T-03: reasons, and T-05: diode errors.
+-- T-02: alerts, T-03: reasons, T-05: diode errors, and T-06: panels.
 use mathlib.Core.Path.{_≡_}
 use mathlib.Core.Bool.{true, false}
 use mathlib.Core.List.{List, [], _∷_, _++_}
@@ -19,6 +19,7 @@ use Rattle.history.specs.MovingTarget.{MovingStretch}
 use Rattle.history.specs.AlertWitness.{AlertWitness}
 use Rattle.history.specs.ReasonWitness.{ReasonWitness}
 use Rattle.history.specs.DiodeWitness.{DiodeWitness}
+use Rattle.history.specs.PanelWitness.{PanelWitness}
 
 -- power at address 44; a spin-up of 2 clocks (0x20); manual setting of 5 x 16 slots (0x00): the fan starts
 abbrev pub started : History
@@ -142,3 +143,5 @@ pub record Witness : Type 0 where
   pub reasons : ReasonWitness
   -- diode errors
   pub diodes : DiodeWitness
+  -- panels
+  pub panels : PanelWitness

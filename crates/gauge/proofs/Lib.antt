@@ -1,0 +1,2 @@
+pub mod DivisionLaws
+pub mod Laws
