@@ -30,9 +30,9 @@ use Rattle.rules.specs.Reasons.{rampTo, reasonFor, whyFor}
 use Rattle.rules.specs.Duties.{enabled, filtered, spinUpOf, Spin, left, prior, spinUpStarts, givenAfter, sinceAfter, dutyAfter, spinAt, spinAfter, spin, duty}
 use Rattle.rules.proofs.FanWordsLaws.{at-each}
 use Rattle.history.proofs.BoundsLaws.{target-small, bounds}
-use Rattle.trace.specs.Whole.{Whole, Events, WrongLine, eventsOf}
+use Rattle.runner.proofs.LinesLaws.{lines-within}
 use Rattle.explainer.specs.Words.{directionWord, rampWords, reasonWords, reasonLine}
-use Rattle.explainer.specs.Explained.{toldText, wholeText, explained}
+use Rattle.explainer.specs.Explained.{toldText, reasonLines, explained}
 
 -- ---- a spin-up has at most 80 clocks
 
@@ -129,7 +129,7 @@ line-short f h =
     let r = reasonFor f (taken h) in
     omega (arith, line-length f r, one-fan f, short r (small f (taken h) (bounds h .slots f)))
 
-told-short : (h : History) → length (toldText (whyFor (pos 1) (taken h)) (whyFor (pos 2) (taken h))) ≤ 52
+told-short : (h : History) → length (reasonLines h) ≤ 52
 unfolding toldText whyFor
 told-short h =
     let one = reasonLine One (reasonFor One (taken h)) in
@@ -138,11 +138,5 @@ told-short h =
     (λ p. rw p (omega (arith, length-append one two, line-short One h, line-short Two h)))
     (λ p. rw p (omega arith))
 
-whole-short : (w : Whole) → length (wholeText w) ≤ 52
-unfolding wholeText
-whole-short (Events h) = told-short h
-whole-short WrongLine = omega arith
-
 pub lines-short : (text : List ℕ) → length (explained text) ≤ 52
-unfolding explained
-lines-short text = by-cases (ltb 65536 (length text)) (λ l. rw l (omega arith)) (λ l. rw l (whole-short (eventsOf text)))
+lines-short text = lines-within reasonLines 52 (omega arith) told-short text

@@ -10,15 +10,10 @@ use Rattle.event.specs.declared.Why.the-variants.{Because}
 use Rattle.rules.specs.Replies.{History}
 use Rattle.rules.specs.PageReplies.{powerOn}
 use Rattle.rules.specs.PageReasons.{toldOf}
-use Rattle.trace.specs.Whole.{Written, wholeTextOf}
+use Rattle.trace.specs.Whole.{wholeTextOf}
+use Rattle.runner.specs.Lines.{TraceOf}
 use Rattle.explainer.specs.Words.{reasonLine}
 use Rattle.explainer.specs.Explained.{explained}
-
--- the text is that of the events, the newest first, and short enough to be judged
-pub record TraceOf (h : History) (text : List ℕ) : Type 0 where
-  pub short : length text ≤ 65536
-  pub numbers : Written h
-  pub whole : text ≡ wholeTextOf h
 
 pub record Explains (text : List ℕ) : Type 0 where
   -- answer=11: more than 65,536 bytes, whatever they are

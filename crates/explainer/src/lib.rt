@@ -3,22 +3,11 @@
 mod words;
 
 use buffer::Put;
-use event::Refusal;
 use event::Why;
-use runner::Reached;
+use runner::Last;
 ghost use mathlib.Core.Path.{_≡_};
-ghost use Rattle.event.specs.Answers.{refusalNumber};
 ghost use Rattle.buffer.specs.Put.{putOf, heldOf};
-ghost use Rattle.report.specs.Report.{answerText};
 ghost use Rattle.explainer.specs.Explained.{toldText, explained};
-
-// The line of a refusal's number.
-fn put_refusal(r: Refusal, buf: &mut [u8]) -> Put
-    ensures { λ p. ⌜ p ≡ putOf (now (buf .entry)) 0 (answerText (refusalNumber r)) ⌝ }
-    ensures { λ _. ⌜ now (buf .exit) ≡ heldOf (now (buf .entry)) 0 (answerText (refusalNumber r)) ⌝ }
-{
-    report::put_number(event::refusal_number(r), buf, 0)
-}
 
 // What is told of both fans.
 fn put_told(one: Why, two: Why, buf: &mut [u8]) -> Put
@@ -28,9 +17,9 @@ fn put_told(one: Why, two: Why, buf: &mut [u8]) -> Put
     match one {
         Why::Because(a) => match two {
             Why::Because(b) => words::put_lines(a, b, buf),
-            Why::Refused(r) => put_refusal(r, buf),
+            Why::Refused(r) => report::put_refusal(r, buf),
         },
-        Why::Refused(r) => put_refusal(r, buf),
+        Why::Refused(r) => report::put_refusal(r, buf),
     }
 }
 
@@ -39,12 +28,9 @@ pub fn explain(text: &[u8], buf: &mut [u8]) -> Put
     ensures { λ p. ⌜ p ≡ putOf (now (buf .entry)) 0 (explained (now (text .entry))) ⌝ }
     ensures { λ _. ⌜ now (buf .exit) ≡ heldOf (now (buf .entry)) 0 (explained (now (text .entry))) ⌝ }
 {
-    if 65536 < text.len() {
-        return put_refusal(Refusal::WrongSize, buf);
+    let last = runner::after_last(text);
+    match last {
+        Last::Keeper(k) => put_told(reason::why(k, 1), reason::why(k, 2), buf),
+        Last::Refused(r) => report::put_refusal(r, buf),
     }
-    let ran = runner::run(text);
-    let Reached::Keeper(k) = ran else {
-        return put_refusal(Refusal::Malformed, buf);
-    };
-    put_told(reason::why(k, 1), reason::why(k, 2), buf)
 }

@@ -105,3 +105,8 @@ module _ (number v : ℕ) (name d : List ℕ) (at : ℕ) (room : at + length (an
     pub behind-put : {d2 : List ℕ} → d2 ≡ sets d1 e (fieldText name m) → d2 ≡ sets d at (answerText number ++ fieldText name v)
     behind-put {d2} h2 =
         then d d1 d2 (answerText number) (fieldText name v) at e (rw (number-is number hn) at h1) (rw (number-is number hn) at q1) (rw hm at h2)
+
+-- ---- the number of a refusal
+
+pub same-number : (n m : ℕ) → n ≡ m → answerText n ≡ answerText m
+same-number n m q = ap answerText q

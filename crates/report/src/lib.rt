@@ -8,6 +8,7 @@ ghost use mathlib.Core.Path.{_≡_};
 ghost use Prim.Native.Nat.{_+_, _/_, _%_, _≤_, _<_};
 ghost use lib.ListN.{length, set};
 ghost use lib.Seq.{sets};
+ghost use Rattle.event.specs.Answers.{refusalNumber};
 ghost use Rattle.decimal.specs.Decimal.{decimalOf};
 ghost use Rattle.buffer.specs.Put.{putOf, heldOf};
 ghost use Rattle.report.specs.Report.{fieldText, answerText, replyText, pinText, dutyText, entryText, malformedText};
@@ -208,4 +209,12 @@ pub fn put_number(number: u8, buf: &mut [u8], at: usize) -> Put
     } else {
         Put::Refused(Refusal::WrongSize)
     }
+}
+
+// The line of a refusal's number, at the start of a buffer.
+pub fn put_refusal(r: Refusal, buf: &mut [u8]) -> Put
+    ensures { λ p. ⌜ p ≡ putOf (now (buf .entry)) 0 (answerText (refusalNumber r)) ⌝ }
+    ensures { λ _. ⌜ now (buf .exit) ≡ heldOf (now (buf .entry)) 0 (answerText (refusalNumber r)) ⌝ }
+{
+    put_number(event::refusal_number(r), buf, 0)
 }

@@ -1,35 +1,14 @@
 use Rattle.buffer.proofs.WholeLaws.{put-as, held-as}
-use Rattle.explainer.proofs.Laws.{too-long, wrong, right}
+use Rattle.explainer.proofs.Laws.{asked, refused}
 use borrow.Author.Needs.{needs}
 use Rattle.explainer.proofs.explain.Statement.{statement}
 use Rattle.explainer.proofs.explain.Tie as tie
 
-put-refusal-requires : tie.Need-put-refusal-requires
-put-refusal-requires c κs = search needs
+after-last-requires : tie.Need-after-last-requires
+after-last-requires c κs = search needs
 
-same-length : tie.Need-same-length
-same-length c = search needs
-
-returns : tie.Need-returns
-returns c = (search (put-as, too-long), search (held-as, too-long))
-
-run-requires : tie.Need-run-requires
-run-requires c κs = search needs
-
-enum-known-ran : tie.Need-enum-known-ran
-enum-known-ran c = search needs
-
-enum-told : tie.Need-enum-told
-enum-told c = search needs
-
-put-refusal-requires-2 : tie.Need-put-refusal-requires-2
-put-refusal-requires-2 c κs = search needs
-
-same-length-2 : tie.Need-same-length-2
-same-length-2 c = search needs
-
-returns-2 : tie.Need-returns-2
-returns-2 c = (search (put-as, wrong), search (held-as, wrong))
+enum-known-last : tie.Need-enum-known-last
+enum-known-last c = search needs
 
 why-requires : tie.Need-why-requires
 why-requires c κs = search needs
@@ -40,27 +19,36 @@ why-requires-2 c κs = search needs
 put-told-requires : tie.Need-put-told-requires
 put-told-requires c κs = search needs
 
-same-length-3 : tie.Need-same-length-3
-same-length-3 c = search needs
+enum-known-last-2 : tie.Need-enum-known-last-2
+enum-known-last-2 c = search needs
 
-returns-3 : tie.Need-returns-3
-returns-3 c = (search (put-as, right), search (held-as, right))
+put-refusal-requires : tie.Need-put-refusal-requires
+put-refusal-requires c κs = search needs
+
+same-length : tie.Need-same-length
+same-length c = search needs
+
+returns : tie.Need-returns
+returns c = (search (put-as, asked), search (held-as, asked))
+
+same-length-2 : tie.Need-same-length-2
+same-length-2 c = search needs
+
+returns-2 : tie.Need-returns-2
+returns-2 c = (search (put-as, refused), search (held-as, refused))
 
 pub explain-spec : {M : Type 1} → statement M
 explain-spec =
     tie.close
     (tie.spec
-    put-refusal-requires
-    same-length
-    returns
-    run-requires
-    enum-known-ran
-    enum-told
-    put-refusal-requires-2
-    same-length-2
-    returns-2
+    after-last-requires
+    enum-known-last
     why-requires
     why-requires-2
     put-told-requires
-    same-length-3
-    returns-3)
+    enum-known-last-2
+    put-refusal-requires
+    same-length
+    returns
+    same-length-2
+    returns-2)

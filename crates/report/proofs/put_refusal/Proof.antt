@@ -1,8 +1,8 @@
 use Rattle.buffer.proofs.WholeLaws.{put-as, held-as}
-use Rattle.explainer.proofs.Laws.{number-is}
+use Rattle.report.proofs.Laws.{same-number}
 use borrow.Author.Needs.{needs}
-use Rattle.explainer.proofs.put_refusal.Statement.{statement}
-use Rattle.explainer.proofs.put_refusal.Tie as tie
+use Rattle.report.proofs.put_refusal.Statement.{statement}
+use Rattle.report.proofs.put_refusal.Tie as tie
 
 refusal-number-requires : tie.Need-refusal-number-requires
 refusal-number-requires c κs = search needs
@@ -14,7 +14,7 @@ same-length : tie.Need-same-length
 same-length c = search needs
 
 returns : tie.Need-returns
-returns c = (search (put-as, number-is), search (held-as, number-is))
+returns c = (search (put-as, same-number), search (held-as, same-number))
 
 pub put-refusal-spec : {M : Type 1} → statement M
 put-refusal-spec =
