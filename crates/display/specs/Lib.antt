@@ -1,0 +1,4 @@
+pub mod Lines
+pub mod Displayed
+pub mod Worked
+pub mod Displays
