@@ -8,9 +8,13 @@ use lib.Dec.{eqb}
 use lib.IntN.{ℤ}
 use lib.ListN.{length}
 use borrow.Author.Tests.{eq-eqb, ne-eqb}
+use Rattle.integer.proofs.BoolLaws.{by-cases}
 use Rattle.event.specs.declared.Answer.{Answer}
 use Rattle.event.specs.declared.Answer.the-variants.{Refused}
+use Rattle.event.specs.declared.Refusal.{Refusal}
 use Rattle.event.specs.declared.Refusal.the-variants.{Malformed, WrongSize}
+use Rattle.rules.specs.Replies.{History, taken}
+use Rattle.rules.specs.Shows.{imageReply, imageHeld}
 use Rattle.keeper.specs.Keeping.{imageAnswer, imageBuffer}
 use Rattle.keeper.specs.declared.Keeper as keeper
 use Rattle.history.specs.Agreement.{run}
@@ -21,7 +25,9 @@ use Rattle.stepper.specs.declared.Parsed.the-variants as parsed
 use Rattle.stepper.proofs.Laws.{none-count, end-count}
 use Rattle.imager.specs.declared.Ran.{Ran}
 use Rattle.imager.specs.declared.Ran.the-variants.{Keeper, Nothing}
-use Rattle.imager.specs.Image.{allEvents, keptBy, imageAfter, imageLeft}
+use Rattle.imager.specs.declared.After.{After}
+use Rattle.imager.specs.declared.After.the-variants as after
+use Rattle.imager.specs.Image.{allEvents, keptBy, afterBy, byEvents, imageAfter, imageLeft}
 
 -- ---- event by event, up to one that is none, or the end
 
@@ -36,60 +42,66 @@ module _ (s : List ℤ) (end i : ℕ) (count : eventCountFrom (end - i) i s ≡ 
       let n : i ≡ end = omega arith in
       rw (← end-count s end i count h′, eq-eqb i end n, e, n)
 
--- ---- the image
+-- ---- what `after_all` returns
 
-module _ (s : List ℤ) (d : List ℕ) where
-  module _ (uneven : 0 < length s % 4) where
-    pub uneven-answer : Refused WrongSize ≡ imageAfter s d
-    unfolding imageAfter
-    uneven-answer = rw (ne-eqb (length s % 4) 0 (λ e. omega arith))
-
-    pub uneven-left : d ≡ imageLeft s d
-    unfolding imageLeft
-    uneven-left = rw (ne-eqb (length s % 4) 0 (λ e. omega arith))
+module _ (s : List ℤ) where
+  pub after-uneven : 0 < length s % 4 → after.Refused WrongSize ≡ afterBy s
+  unfolding afterBy
+  after-uneven h = rw (ne-eqb (length s % 4) 0 (λ e. omega arith))
 
   module _ (even : length s % 4 ≤ 0) {r : Ran} (e : r ≡ keptBy (length s / 4) s) where
-    whole : eqb (length s % 4) 0 ≡ true
-    whole = eq-eqb (length s % 4) 0 (omega arith)
+    pub after-none : r ≡ Nothing → after.Refused Malformed ≡ afterBy s
+    unfolding afterBy
+    after-none q = rw (eq-eqb (length s % 4) 0 (omega arith), ← e, q)
 
-    module _ (q : r ≡ Nothing) where
-      none-then : (b : Bool) → allEvents (length s / 4) s ≡ b → allEvents (length s / 4) s ≡ false
-      unfolding keptBy
-      none-then false h = h
-      none-then true h =
-          let c : Keeper (run (firstEvents (length s / 4) s)) ≡ Nothing = sym (e ∙ rw h) ∙ q in
-          let z : _≡_ {A = ℕ} 0 1 = cc in
-          absurd (omega arith)
+    pub after-kept : {k : keeper.Keeper} → r ≡ Keeper k → after.Keeper k ≡ afterBy s
+    unfolding afterBy
+    after-kept q = rw (eq-eqb (length s % 4) 0 (omega arith), ← e, q)
 
-      none : allEvents (length s / 4) s ≡ false
-      none = none-then (allEvents (length s / 4) s) refl
+-- ---- what follows from a list, by the keeper that it leaves
 
-      pub none-answer : Refused Malformed ≡ imageAfter s d
-      unfolding imageAfter
-      none-answer = rw (whole, none)
+module _ {A : Type 0} (refused : Refusal → A) (of : History → A) (s : List ℤ) where
+  -- of each list: it is no whole events, or has a kind that is none, or leaves the keeper of its events
+  by-after : (P : After → A → Type 0) → P (after.Refused WrongSize) (refused WrongSize) → P (after.Refused Malformed) (refused Malformed)
+      → ((h : History) → P (after.Keeper (run h)) (of h)) → P (afterBy s) (byEvents refused of s)
+  unfolding afterBy keptBy
+  by-after P size kind kept =
+      by-cases (eqb (length s % 4) 0)
+      (λ w. by-cases (allEvents (length s / 4) s) (λ a. rw (w, a) (kept (firstEvents (length s / 4) s))) (λ a. rw (w, a) kind))
+      (λ w. rw w size)
 
-      pub none-left : d ≡ imageLeft s d
-      unfolding imageLeft
-      none-left = rw (whole, none)
+  module _ {a : After} (is : a ≡ afterBy s) where
+    pub refused-then : {r : Refusal} → a ≡ after.Refused r → refused r ≡ byEvents refused of s
+    refused-then {r} q =
+        by-after (λ x y. x ≡ after.Refused r → refused r ≡ y)
+        (λ e. let t : WrongSize ≡ r = cc in rw (← t))
+        (λ e. let t : Malformed ≡ r = cc in rw (← t))
+        (λ h e. cc) (sym is ∙ q)
 
-    module _ {k : keeper.Keeper} (q : r ≡ Keeper k) where
-      all-then : (b : Bool) → allEvents (length s / 4) s ≡ b → (allEvents (length s / 4) s ≡ true) × (k ≡ run (firstEvents (length s / 4) s))
-      unfolding keptBy
-      all-then true h =
-          let c : Keeper k ≡ Keeper (run (firstEvents (length s / 4) s)) = sym q ∙ e ∙ rw h in
-          (h, cc)
-      all-then false h =
-          let c : Nothing ≡ Keeper k = sym (e ∙ rw h) ∙ q in
-          let z : _≡_ {A = ℕ} 0 1 = cc in
-          absurd (omega arith)
+    pub kept-then : {k : keeper.Keeper} {x : A} → a ≡ after.Keeper k → ((h : History) → k ≡ run h → x ≡ of h) → x ≡ byEvents refused of s
+    kept-then {k} {x} q each =
+        by-after (λ b y. b ≡ after.Keeper k → x ≡ y)
+        (λ e. cc)
+        (λ e. cc)
+        (λ h e. let t : run h ≡ k = cc in each h (sym t)) (sym is ∙ q)
 
-      all : (allEvents (length s / 4) s ≡ true) × (k ≡ run (firstEvents (length s / 4) s))
-      all = all-then (allEvents (length s / 4) s) refl
+-- ---- the image
 
-      pub all-answer : {a : Answer} → a ≡ imageAnswer k d → a ≡ imageAfter s d
-      unfolding imageAfter
-      all-answer h = rw (whole, all .0) (h ∙ ap (λ (x : keeper.Keeper). imageAnswer x d) (all .1) ∙ agreement (firstEvents (length s / 4) s) .image d)
+module _ (s : List ℤ) (d : List ℕ) {a : After} (is : a ≡ afterBy s) where
+  module _ {r : Refusal} (q : a ≡ after.Refused r) where
+    pub refused-answer : Refused r ≡ imageAfter s d
+    unfolding imageAfter
+    refused-answer = refused-then Refused (λ h. imageReply d (taken h)) s is q
 
-      pub all-left : {d′ : List ℕ} → d′ ≡ imageBuffer k d → d′ ≡ imageLeft s d
-      unfolding imageLeft
-      all-left h = rw (whole, all .0) (h ∙ ap (λ (x : keeper.Keeper). imageBuffer x d) (all .1) ∙ agreement (firstEvents (length s / 4) s) .buffer d)
+    pub refused-left : d ≡ imageLeft s d
+    unfolding imageLeft
+    refused-left = refused-then (λ r. d) (λ h. imageHeld d (taken h)) s is q
+
+  module _ {k : keeper.Keeper} (q : a ≡ after.Keeper k) where
+    pub all-answer : {x : Answer} → x ≡ imageAnswer k d → x ≡ imageAfter s d
+    unfolding imageAfter
+    all-answer e = kept-then Refused (λ h. imageReply d (taken h)) s is q (λ h same. rw (e, same, agreement h .image d))
+
+    pub all-left : {d′ : List ℕ} → d′ ≡ imageBuffer k d → d′ ≡ imageLeft s d
+    unfolding imageLeft
+    all-left e = kept-then (λ r. d) (λ h. imageHeld d (taken h)) s is q (λ h same. rw (e, same, agreement h .buffer d))

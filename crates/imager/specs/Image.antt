@@ -7,13 +7,16 @@ use lib.IntN.{ℤ}
 use lib.ListN.{length}
 use Rattle.event.specs.declared.Answer.{Answer}
 use Rattle.event.specs.declared.Answer.the-variants.{Refused}
+use Rattle.event.specs.declared.Refusal.{Refusal}
 use Rattle.event.specs.declared.Refusal.the-variants.{Malformed, WrongSize}
-use Rattle.rules.specs.Replies.{taken}
+use Rattle.rules.specs.Replies.{History, taken}
 use Rattle.rules.specs.Shows.{imageReply, imageHeld}
 use Rattle.history.specs.Agreement.{run}
 use Rattle.stepper.specs.Steps.{eventCountFrom, firstEvents}
 use Rattle.imager.specs.declared.Ran.{Ran}
 use Rattle.imager.specs.declared.Ran.the-variants.{Keeper, Nothing}
+use Rattle.imager.specs.declared.After.{After}
+use Rattle.imager.specs.declared.After.the-variants as after
 
 -- the first n of a list of numbers are events
 abbrev pub allEvents : (n : ℕ) → List ℤ → Bool
@@ -23,13 +26,22 @@ allEvents n s = eqb (eventCountFrom n 0 s) n
 unfoldable pub keptBy : (n : ℕ) → List ℤ → Ran
 keptBy n s = cond (allEvents n s) (Keeper (run (firstEvents n s))) Nothing
 
--- 11 for numbers that are no whole events, 10 for a kind that is none, else what the rules answer after the events
-unfoldable pub imageAfter : (s : List ℤ) (d : List ℕ) → Answer
-imageAfter s d =
-    cond (eqb (length s % 4) 0)
-    (cond (allEvents (length s / 4) s) (imageReply d (taken (firstEvents (length s / 4) s))) (Refused Malformed))
-    (Refused WrongSize)
+-- 11 for numbers that are no whole events, 10 for a kind that is none
+abbrev pub afterOf : Ran → After
+afterOf (Keeper k) = after.Keeper k
+afterOf Nothing = after.Refused Malformed
 
--- what the buffer then holds
+unfoldable pub afterBy : List ℤ → After
+unfolding keptBy
+afterBy s = cond (eqb (length s % 4) 0) (afterOf (keptBy (length s / 4) s)) (after.Refused WrongSize)
+
+-- what follows from a list: for either refusal, else by its events
+abbrev pub byEvents : {A : Type 0} → (refused : Refusal → A) (of : History → A) → List ℤ → A
+byEvents refused of s = cond (eqb (length s % 4) 0) (cond (allEvents (length s / 4) s) (of (firstEvents (length s / 4) s)) (refused Malformed)) (refused WrongSize)
+
+-- what the rules answer after the events, and what the buffer then holds
+unfoldable pub imageAfter : (s : List ℤ) (d : List ℕ) → Answer
+imageAfter s d = byEvents Refused (λ h. imageReply d (taken h)) s
+
 unfoldable pub imageLeft : (s : List ℤ) (d : List ℕ) → List ℕ
-imageLeft s d = cond (eqb (length s % 4) 0) (cond (allEvents (length s / 4) s) (imageHeld d (taken (firstEvents (length s / 4) s))) d) d
+imageLeft s d = byEvents (λ r. d) (λ h. imageHeld d (taken h)) s

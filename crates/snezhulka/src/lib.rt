@@ -1,9 +1,10 @@
-// The replay, the engine, the reasons, the register image, the rewriter and the alert search for programs in C and Rust: slices in, a number out.
+// The replay, the engine, the reasons, the register image, the panel, the rewriter and the alert search for programs in C and Rust: slices in, a number out.
 // A slice is passed as pointer and number of elements; no pointer may be null, and two of one call may not overlap:
 // size_t snezhulka_replay(const uint8_t *text, size_t text_len, uint8_t *report, size_t report_len);
 // size_t snezhulka_steps(const int32_t *numbers, size_t count, uint8_t *outcomes, size_t outcomes_len);
 // size_t snezhulka_reasons(const int32_t *numbers, size_t count, uint8_t *reasons, size_t reasons_len);
 // size_t snezhulka_image(const int32_t *numbers, size_t count, uint8_t *image, size_t image_len);
+// size_t snezhulka_panel(const int32_t *numbers, size_t count, double *figures, size_t figures_len, uint8_t *cases, size_t cases_len);
 // size_t snezhulka_rewrite(const uint8_t *text, size_t text_len, uint8_t *copy, size_t copy_len);
 // size_t snezhulka_wrong_line(const uint8_t *text, size_t text_len, uint8_t *line, size_t line_len);
 // uint8_t snezhulka_alert(struct snezhulka_alert_entry *row, size_t count, uint8_t *data);
@@ -19,6 +20,7 @@ ghost use Rattle.player.specs.Report.{replayAnswer, replayBuffer};
 ghost use Rattle.stepper.specs.Steps.{stepsAnswer, stepsBuffer};
 ghost use Rattle.reasoner.specs.Reasons.{reasonsAnswer, reasonsBuffer};
 ghost use Rattle.imager.specs.Image.{imageAfter, imageLeft};
+ghost use Rattle.imager.specs.Figures.{panelAfter, figuresLeft, casesLeft};
 ghost use Rattle.rewriter.specs.Rewritten.{copyEnd};
 ghost use Rattle.rewriter.specs.Wrong.{wrongLine};
 ghost use Rattle.snezhulka.specs.Exported.{noLength, dataLeft};
@@ -66,6 +68,19 @@ pub extern "C" fn snezhulka_image(numbers: &[i32], image: &mut [u8]) -> usize
     ensures { λ _. ⌜ now (image .exit) ≡ imageLeft (now (numbers .entry)) (now (image .entry)) ⌝ }
 {
     event::number_of(imager::image(numbers, image)) as usize
+}
+
+// The panel after the same events: local, remote 1 and remote 2 in degrees, fan 1 and fan 2 in revolutions a minute, in the first
+// five figures; the case of each fan in the first two cases, 0 not measured, 1 stalled, 2 a speed; a figure that is no speed is 0.
+// The reply number: 0; 11 where the numbers are no whole events or a buffer is too short, 10 where an event has another kind,
+// 1 before the first accepted power. But for 0 the buffers stay as they were.
+#[no_mangle]
+pub extern "C" fn snezhulka_panel(numbers: &[i32], figures: &mut [f64], cases: &mut [u8]) -> usize
+    ensures { λ r. ⌜ r ≡ numberOf (panelAfter (now (numbers .entry)) (now (figures .entry)) (now (cases .entry))) ⌝ }
+    ensures { λ _. ⌜ now (figures .exit) ≡ figuresLeft (now (numbers .entry)) (now (figures .entry)) (now (cases .entry)) ⌝ }
+    ensures { λ _. ⌜ now (cases .exit) ≡ casesLeft (now (numbers .entry)) (now (figures .entry)) (now (cases .entry)) ⌝ }
+{
+    event::number_of(imager::panel(numbers, figures, cases)) as usize
 }
 
 // A trace read event by event and written again: how many bytes, up to the first event that is not well-formed or does
