@@ -10,7 +10,7 @@ from command.output import say
 from command.status import BUILD, Failure
 
 ROOT = pathlib.Path(__file__).resolve().parent.parent
-BUILT = {name: ROOT / "target" / "bin" / name for name in ("replay", "why")}
+BUILT = {name: ROOT / "target" / "bin" / name for name in ("replay", "why", "panel")}
 LOG = ROOT / "target" / "keeper.log"
 PROVED = re.compile(r"rt: (\w+) (proved|NOT PROVED)(.*)")
 QUIET = ("unchanged", "its dependency")

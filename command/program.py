@@ -1,4 +1,4 @@
-"""The proved programs, run: `replay` for the report of a trace, `why` for the reasons after its last event."""
+"""The proved programs, run: `replay` for the report of a trace, `why` and `panel` for the reasons and the panel after its last event."""
 import concurrent.futures
 import functools
 import subprocess
@@ -35,3 +35,8 @@ def reasons_of(texts):
     ready()
     with concurrent.futures.ThreadPoolExecutor(AT_A_TIME) as pool:
         return list(pool.map(functools.partial(printed, "why"), texts))
+
+
+def panel_of(text):
+    ready()
+    return printed("panel", text)

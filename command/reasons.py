@@ -1,11 +1,11 @@
 """The reasons for the duties, as the program `why` gives them after an event; nothing of them is worked out here."""
 import collections
 import itertools
-import operator
 
+from command.case import NO_POWER, powered, refusal_of
 from command.program import reasons_of
 from command.registers import CHANNELS
-from command.report import FULL, TOO_LONG
+from command.report import FULL
 from command.status import BUILD, Failure
 from command.trace import Event
 
@@ -22,7 +22,6 @@ FORMS = {  # the first word, and which words stand behind it
 }
 STANDS, RUNS_FULL, OF_CHANNEL = ("disabled", "zero"), ("pin", "therm", "spin"), ("therm", "demand")
 FANS = (1, 2)
-NO_POWER, WRONG_LINE, LONG = 1, 10, 11  # refusals
 
 
 class Reason(collections.namedtuple("Reason", "what more")):
@@ -89,12 +88,6 @@ def cuts(case):
     return [text[:end] for end in itertools.islice(ends, size - 1, size * len(case.events), size)]
 
 
-def powered(case):
-    """Whether a power was accepted, up to each event."""
-    powers = (event.kind == "power" and not shown.answer for event, shown in zip(case.events, case.shown))
-    return list(itertools.accumulate(powers, operator.or_))
-
-
 def after_each(case):
     """The reasons of both fans after each event, None before the first accepted power."""
     rows = zip(reasons_of(cuts(case)), powered(case), case.shown)
@@ -104,8 +97,4 @@ def after_each(case):
 def after_last(case):
     """What the program prints of the whole text, and the reasons of both fans in it, None where it is refused."""
     (printed,) = reasons_of([case.text])
-    if case.ending:
-        refusal = LONG if case.report == TOO_LONG else WRONG_LINE
-    else:
-        refusal = 0 if any(powered(case)) else NO_POWER
-    return printed, told(printed, refusal, case.shown[-1] if case.shown else None)
+    return printed, told(printed, refusal_of(case), case.shown[-1] if case.shown else None)

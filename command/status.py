@@ -3,7 +3,7 @@
 DONE, MALFORMED, USE, BUILD, OUTPUT = range(5)
 MEANINGS = {
     DONE: "done",
-    MALFORMED: "the trace was malformed or too long; all but why put out what comes before the wrong line",
+    MALFORMED: "the trace was malformed or too long; all but why and panel put out what comes before the wrong line",
     USE: "wrong use, no such file, or the trace could not be read",
     BUILD: "no toolchain, or the program was not built or does not work",
     OUTPUT: "the output could not be written",

@@ -1,11 +1,32 @@
 /* A keeper in a C program: power on, watch the local channel, heat it past its THERM limit of 70 degrees, read the status; why
-   the fans run as they do after each event.
+   the fans run as they do after each event; the panel after the last, and before the first.
    Then three keepers on one alert line, two of which pull it: who answers, until nobody does. */
 #include <stdio.h>
 
 #include "snezhulka.h"
 
 enum { POWER, WRITE, POINT, READ, SAMPLE };
+
+static void say_fan(int fan, struct snezhulka_fan_speed speed) {
+    if (speed.its_case == SNEZHULKA_SPEED)
+        printf(", fan %d %.1f rpm", fan, speed.speed);
+    else
+        printf(", fan %d %s", fan, speed.its_case == SNEZHULKA_STALLED ? "stalled" : "not measured");
+}
+
+/* Says the panel after some events, or the answer where there is none. */
+static void say_panel(const int32_t *numbers, size_t count) {
+    struct snezhulka_panel_record panel;
+    size_t answer = snezhulka_panel_of(numbers, count, &panel);
+    if (answer == 0) {
+        printf("local %.3f, remote 1 %.3f, remote 2 %.3f degrees", panel.local, panel.remote1, panel.remote2);
+        say_fan(1, panel.fan1);
+        say_fan(2, panel.fan2);
+        printf("\n");
+    } else {
+        printf("no panel, answer %d\n", (int)answer);
+    }
+}
 
 /* Asks at the alert response address, 0x0C; says the answer, and each keeper with 1 while it pulls the line. */
 static uint8_t ask(struct snezhulka_alert_entry *row, size_t count) {
@@ -32,6 +53,8 @@ int main(void) {
     for (size_t i = 0; i < end / 7; i++)
         printf("answer %d data %d therm %d duties %d %d because %d %d\n", outcomes[i][0], outcomes[i][1], outcomes[i][3],
                outcomes[i][5], outcomes[i][6], reasons[i][0][0], reasons[i][1][0]);
+    say_panel(*events, sizeof events / sizeof **events);
+    say_panel(*events, 0);
     struct snezhulka_alert_entry row[] = {{46, true}, {44, false}, {45, true}};
     while (ask(row, sizeof row / sizeof *row) == 0) {
         /* here the keeper that answered is given the event alert */

@@ -42,6 +42,50 @@ size_t snezhulka_reasons(const int32_t *numbers, size_t count, uint8_t *reasons,
    `image` has fewer than 64 bytes. But for 0 the buffer is then as it was. */
 size_t snezhulka_image(const int32_t *numbers, size_t count, uint8_t *image, size_t image_len);
 
+/* The cases of a fan's speed: count 0; count 255; any other count, which gives a speed. */
+#define SNEZHULKA_NOT_MEASURED 0
+#define SNEZHULKA_STALLED 1
+#define SNEZHULKA_SPEED 2
+
+/* Steps a keeper that never had power through the same events and puts its panel into the first 5 places of `figures` and the
+   first 2 of `cases`. The figures are the temperatures of local, remote 1 and remote 2 in degrees, exactly, and the speeds of
+   fan 1 and fan 2 in revolutions a minute, 0.0 where the case of that fan, in `cases`, is not SNEZHULKA_SPEED.
+   A temperature is that of the last sample with its offset, also while the diode is in error; 0.0 where there was no sample
+   since the last power or reset. A speed is the double nearest to 675,000 over the product of the count, as 0x08 or 0x09 has
+   it, and the range, which is 1, 2, 4 or 8 by bits 7:6 of 0x20 or 0x21.
+   Gives the reply number: 0; 11 where the numbers are no whole events or a buffer is too short; else 10 where an event has
+   another kind; else 1 before the first accepted power. But for 0 both buffers are then as they were. */
+size_t snezhulka_panel(const int32_t *numbers, size_t count, double *figures, size_t figures_len, uint8_t *cases,
+                       size_t cases_len);
+
+/* A panel with names: of a fan its case, and its speed, which is 0.0 where the case is not SNEZHULKA_SPEED. */
+struct snezhulka_fan_speed {
+    uint8_t its_case;
+    double speed;
+};
+
+struct snezhulka_panel_record {
+    double local, remote1, remote2;
+    struct snezhulka_fan_speed fan1, fan2;
+};
+
+/* Puts the panel of snezhulka_panel into `*panel` and gives its reply number. But for 0 `*panel` is as it was. */
+static inline size_t snezhulka_panel_of(const int32_t *numbers, size_t count, struct snezhulka_panel_record *panel) {
+    double figures[5] = {0};
+    uint8_t cases[2] = {0};
+    size_t number = snezhulka_panel(numbers, count, figures, 5, cases, 2);
+    if (number == 0) {
+        panel->local = figures[0];
+        panel->remote1 = figures[1];
+        panel->remote2 = figures[2];
+        panel->fan1.its_case = cases[0];
+        panel->fan1.speed = figures[3];
+        panel->fan2.its_case = cases[1];
+        panel->fan2.speed = figures[4];
+    }
+    return number;
+}
+
 /* Reads the events of a trace text and writes each of them again into `copy`, from its start, up to the first that is not
    well-formed or does not fit. Gives how many bytes that are: the same that the text starts with, since an event has one
    text only. The other bytes of `copy` are as they were. */

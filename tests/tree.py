@@ -9,8 +9,8 @@ import subprocess
 import sys
 
 ROOT = pathlib.Path(__file__).resolve().parent.parent
-PROGRAMS = ("replay", "why")
-PROGRAM, WHY = (ROOT / "target" / "bin" / name for name in PROGRAMS)
+PROGRAMS = ("replay", "why", "panel")
+PROGRAM, WHY, PANEL = (ROOT / "target" / "bin" / name for name in PROGRAMS)
 TOOLS = "cat cp dirname mkdir readlink sh".split()
 SECONDS = 60  # more than any use takes
 
@@ -51,7 +51,7 @@ class Tree:
 
     def restore(self):
         """The programs as they were built, newer than the crates of the tree."""
-        for built, program in zip((PROGRAM, WHY), self.programs.values()):
+        for built, program in zip((PROGRAM, WHY, PANEL), self.programs.values()):
             program.unlink(missing_ok=True)
             shutil.copy(built, program)
 

@@ -1,11 +1,13 @@
-//! Safe calls of the proved fan keeper: a trace text in and a report out, or events in and outcomes, a register image
-//! or the reasons of the fans out; a trace text read and written again; its first wrong line; and who pulled an alert
-//! line that several keepers share.
+//! Safe calls of the proved fan keeper: a trace text in and a report out, or events in and outcomes, a register image,
+//! a panel or the reasons of the fans out; a trace text read and written again; its first wrong line; and who pulled an
+//! alert line that several keepers share.
 
 use std::fmt;
 
+mod panel;
 mod reasons;
 
+pub use panel::{panel, FanSpeed, Panel};
 pub use reasons::{reasons, Reason, Why};
 
 /// The longest trace text that is taken, in bytes.
@@ -46,6 +48,16 @@ mod library {
             count: usize,
             image: *mut u8,
             image_len: usize,
+        ) -> usize;
+
+        // The reply number of the panel. The lengths count the numbers, the figures and the cases.
+        pub fn snezhulka_panel(
+            numbers: *const i32,
+            count: usize,
+            figures: *mut f64,
+            figures_len: usize,
+            cases: *mut u8,
+            cases_len: usize,
         ) -> usize;
 
         // How many bytes of the text were written again.
