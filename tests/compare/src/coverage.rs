@@ -4,6 +4,7 @@ use crate::alerts::{self, Alerts};
 use crate::diodes::Diodes;
 use crate::facts::Facts;
 use crate::offsets::{Offsets, CASES};
+use crate::panels::Panels;
 use snezhulka::Event;
 
 /// 12 is a row's alone.
@@ -23,6 +24,7 @@ pub struct Coverage {
     alerts: [u64; alerts::CASES.len()],
     facts: Facts,
     diodes: Diodes,
+    pub panels: Panels,
 }
 
 impl Coverage {
@@ -40,6 +42,7 @@ impl Coverage {
             alerts: [0; alerts::CASES.len()],
             facts: Facts::none(),
             diodes: Diodes::none(),
+            panels: Panels::none(),
         }
     }
 
@@ -119,6 +122,7 @@ impl Coverage {
         }
         self.facts.add(&other.facts);
         self.diodes.add(&other.diodes);
+        self.panels.add(&other.panels);
     }
 
     fn distinct_duties(&self) -> usize {
@@ -143,6 +147,7 @@ impl Coverage {
         }
         self.facts.print();
         self.diodes.print();
+        self.panels.print();
     }
 
     /// What was never reached; nothing if all was.
@@ -177,6 +182,7 @@ impl Coverage {
         }
         missing.extend(self.facts.missing());
         missing.extend(self.diodes.missing());
+        missing.extend(self.panels.missing());
         missing
     }
 }
@@ -187,59 +193,4 @@ fn number_after(line: &[u8], name: &[u8]) -> Option<usize> {
 }
 
 #[cfg(test)]
-mod tests {
-    use super::Coverage;
-
-    #[test]
-    fn counts_what_a_report_holds() {
-        let mut coverage = Coverage::none();
-        coverage.count(
-            None,
-            b"answer=0\ndata=0\nint=1\ntherm=0\nfault=0\nduty1=240\nduty2=17\nanswer=10\nline=5\n",
-        );
-        assert_eq!((coverage.traces, coverage.events), (1, 1));
-        assert_eq!((coverage.int, coverage.therm, coverage.fault), (1, 0, 0));
-        assert_eq!((coverage.answers[0], coverage.answers[10]), (1, 1));
-        assert_eq!(coverage.distinct_duties(), 2);
-        coverage.count(None, b"answer=13\nanswer=12\n");
-        assert_eq!((coverage.answers[12], coverage.events), (1, 3));
-    }
-
-    #[test]
-    fn counts_the_samples_that_are_done() {
-        let (write, sample) = ([1, 44, 0x0d, 0x0f], [4, 0, 0, 1022]);
-        let mut coverage = Coverage::none();
-        let report = b"answer=0\nanswer=0\nanswer=0\nanswer=9\nanswer=0\n";
-        coverage.count(
-            Some(&[[0, 44, 0, 0], write, sample, sample, sample]),
-            report,
-        );
-        assert_eq!(
-            (coverage.samples[0], coverage.samples[5]),
-            ([2, 0, 0], [2, 0, 0])
-        );
-        coverage.count(Some(&[write, sample]), b"answer=2\nanswer=0\n");
-        assert_eq!(coverage.samples.as_flattened().iter().sum::<u64>(), 4);
-        let mut twice = Coverage::none();
-        twice.add(&coverage);
-        twice.add(&coverage);
-        assert_eq!(twice.samples[0], [4, 0, 0]);
-    }
-
-    #[test]
-    fn counts_alerts_by_the_events_alone() {
-        let (power, own, foreign) = ([0, 44, 0, 0], [9, 44, 0, 0], [9, 45, 0, 0]);
-        let mut coverage = Coverage::none();
-        coverage.count(Some(&[own, power, own, foreign, foreign]), b"");
-        assert_eq!(coverage.alerts, [0, 1, 0, 1, 2, 0, 0, 0, 0, 0, 0, 0]);
-        let mut twice = Coverage::none();
-        twice.add(&coverage);
-        twice.add(&coverage);
-        assert_eq!(twice.alerts, [0, 2, 0, 2, 4, 0, 0, 0, 0, 0, 0, 0]);
-    }
-
-    #[test]
-    fn nothing_reached_is_missing() {
-        assert_eq!(Coverage::none().missing().len(), 243);
-    }
-}
+mod tests;

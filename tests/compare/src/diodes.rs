@@ -2,13 +2,12 @@
 
 mod channels;
 mod fans;
-mod table;
 
 use crate::alerts::{is_reset, registers};
 use crate::events::second_event;
+use crate::table::Table;
 use second::keeper::{Keeper, Reply};
 use snezhulka::{Event, IMAGE_LENGTH};
-use table::Table;
 
 const POWER: i32 = 0;
 const ALERT: i32 = 9;
@@ -26,8 +25,8 @@ const REFUSALS: [&str; 6] = [
 
 /// How often each of the cases was met: on the remote channels, on the fans, and by refused diode events.
 pub struct Diodes {
-    channels: [Table; 2],
-    fans: [Table; 2],
+    channels: [Table<2>; 2],
+    fans: [Table<2>; 2],
     refusals: [u64; REFUSALS.len()],
 }
 
@@ -54,8 +53,8 @@ impl Diodes {
         let channels = [&channels::TOLD[..], &channels::STANDING];
         let fans = [&fans::TOLD[..], &fans::STANDING];
         Diodes {
-            channels: channels.map(|cases| Table::none("remote", cases)),
-            fans: fans.map(|cases| Table::none("fan", cases)),
+            channels: channels.map(|cases| Table::none(["remote 1", "remote 2"], cases)),
+            fans: fans.map(|cases| Table::none(["fan 1", "fan 2"], cases)),
             refusals: [0; REFUSALS.len()],
         }
     }

@@ -39,6 +39,17 @@ fn number(word: &str) -> Option<i32> {
     (number.to_string() == word).then_some(number)
 }
 
+/// The text of events that have a kind.
+pub fn text_of(events: &[Event]) -> Vec<u8> {
+    let mut text = Vec::new();
+    for &[kind, who, arg, val] in events {
+        let kind = KINDS[kind as usize];
+        writeln!(text, "kind={kind}\nwho={who}\narg={arg}\nval={val}")
+            .expect("a list of bytes takes every byte");
+    }
+    text
+}
+
 /// The report put together from the outcomes that the proved engine gives, if every line of the text is right.
 pub fn report_of(text: &[u8]) -> Option<Vec<u8>> {
     events_of(text).as_deref().map(report_after)

@@ -1,6 +1,6 @@
 //! Says where a trace differs, and shows the shortest one that still does.
 
-use crate::{events, images, lines, reasons, shrink, traces};
+use crate::{events, images, lines, panels, reasons, shrink, traces};
 
 /// The second program's report; a panic there counts as a report of its own, so that it is found like any difference.
 pub fn second_report(text: &[u8]) -> Vec<u8> {
@@ -22,6 +22,11 @@ fn image_differs(text: &[u8], index: u64) -> bool {
 /// What of the reasons differs; wrong text has none.
 fn reasons_difference(text: &[u8], index: u64) -> Option<&'static str> {
     events::events_of(text).and_then(|events| reasons::difference(&events, index))
+}
+
+/// What of the panels differs; wrong text has none.
+fn panel_difference(text: &[u8], index: u64) -> Option<&'static str> {
+    events::events_of(text).and_then(|events| panels::difference(&events, index))
 }
 
 /// Whether the text written again differs.
@@ -60,6 +65,20 @@ fn both_reasons(seed: u64, index: u64, what: &str) -> String {
     told(seed, index, what, &short) + &reasons::shown(&events)
 }
 
+/// The same of the panels: where one differs, the shortest trace after which it does.
+fn both_panels(seed: u64, index: u64, what: &str) -> String {
+    let text = traces::trace(seed, index);
+    let events = events::events_of(&text).expect("where panels differ there are events");
+    let Some(after) = panels::different_after(&events, index) else {
+        let differs = |text: &[u8], index| panel_difference(text, index) == Some(what);
+        return other(seed, index, what, &differs);
+    };
+    let taken = |text: &[u8]| events::events_of(text).unwrap_or_default();
+    let differs = |rest: &[u8]| panels::differs_at_the_end(&taken(rest));
+    let short = shrink::shortest(&events::text_of(&after), &differs);
+    told(seed, index, what, &short) + &panels::shown(&taken(&short))
+}
+
 fn told(seed: u64, index: u64, what: &str, short: &[u8]) -> String {
     format!(
         "{what}: seed {seed}, trace {index} differs\nshortest trace that differs, taken as trace {index}:\n{}",
@@ -78,6 +97,8 @@ pub fn in_process(seed: u64, index: u64) -> String {
         other(seed, index, "the register image", &image_differs)
     } else if let Some(what) = reasons_difference(&text, index) {
         both_reasons(seed, index, what)
+    } else if let Some(what) = panel_difference(&text, index) {
+        both_panels(seed, index, what)
     } else if copy_differs(&text, index) {
         other(seed, index, "the text written again", &copy_differs)
     } else {

@@ -1,21 +1,23 @@
 //! Compares the proved keeper with the second program, byte for byte, over random traces and rows of alert entries.
 //!
-//! compare [--traces N] [--seed S] [--program PATH] [--why PATH]
+//! compare [--traces N] [--seed S] [--program PATH] [--why PATH] [--panel PATH]
 
 use compare::finding::Finding;
-use compare::{explain, program, rows, traces, whys};
+use compare::{displays, explain, program, rows, traces, whys};
 use std::process::ExitCode;
 use std::sync::atomic::{AtomicBool, AtomicU64, Ordering};
 use std::thread;
 
 const THREADS: usize = 2;
-const USAGE: &str = "usage: compare [--traces N] [--seed S] [--program PATH] [--why PATH]";
+const USAGE: &str =
+    "usage: compare [--traces N] [--seed S] [--program PATH] [--why PATH] [--panel PATH]";
 
 struct Arguments {
     traces: u64,
     seed: u64,
     program: Option<String>,
     why: Option<String>,
+    panel: Option<String>,
 }
 
 fn arguments() -> Result<Arguments, String> {
@@ -24,6 +26,7 @@ fn arguments() -> Result<Arguments, String> {
         seed: 1,
         program: None,
         why: None,
+        panel: None,
     };
     let mut words = std::env::args().skip(1);
     while let Some(word) = words.next() {
@@ -33,6 +36,7 @@ fn arguments() -> Result<Arguments, String> {
             "--seed" => arguments.seed = number(&value)?,
             "--program" => arguments.program = Some(value),
             "--why" => arguments.why = Some(value),
+            "--panel" => arguments.panel = Some(value),
             _ => return Err(USAGE.to_string()),
         }
     }
@@ -87,6 +91,9 @@ fn run() -> Result<(), String> {
     }
     if let Some(path) = &arguments.why {
         whys::compare(path, arguments.seed)?;
+    }
+    if let Some(path) = &arguments.panel {
+        displays::compare(path, arguments.seed)?;
     }
     finding.coverage.print();
     let missing = finding.missing();

@@ -1,6 +1,7 @@
 //! The worked example and the bench cards of 01, and cards for its other rules.
 
 mod diodes;
+mod panel;
 mod reasons;
 
 use crate::keeper::{Event, Keeper, Kind, Reply};

@@ -8,9 +8,11 @@ mod diodes;
 mod fans;
 mod fields;
 mod image;
+mod panel;
 mod reasons;
 mod replies;
 
+pub use panel::{Panel, Speed};
 pub use reasons::Reason;
 
 #[derive(Clone, Copy, PartialEq, Eq, Debug)]

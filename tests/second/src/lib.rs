@@ -1,8 +1,10 @@
 //! A replay of fan controller traces: the chip is in `keeper`, its register
 //! table in `table`, the trace reader and the report in `text`; the search of
-//! several keepers on one line in `row`; why the fans run as they do in `why`.
+//! several keepers on one line in `row`; why the fans run as they do in `why`;
+//! degrees and revolutions in `panel`.
 
 pub mod keeper;
+pub mod panel;
 pub mod row;
 pub mod table;
 pub mod text;
@@ -11,5 +13,6 @@ pub mod why;
 #[cfg(test)]
 mod cards;
 
+pub use panel::panel;
 pub use text::replay;
 pub use why::why;

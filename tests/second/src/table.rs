@@ -21,6 +21,9 @@ pub const BEHAVIOR: usize = 0x3F;
 /// Spin-up times in clock events, tenths of a second (Tables 9 and 23).
 pub const SPIN_CLOCKS: [u8; 8] = [2, 4, 6, 8, 10, 20, 40, 80];
 
+/// The 11.25 kHz clock that measures a fan's revolution, by the minute (eq. 14).
+pub const TICKS_A_MINUTE: i32 = 60 * 11_250;
+
 // reply 4: the registers with a row in Table 16 or 17
 pub fn exists(register: i32) -> bool {
     matches!(

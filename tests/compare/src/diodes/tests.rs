@@ -1,5 +1,5 @@
-use super::table::Table;
 use super::{Diodes, REFUSALS};
+use crate::table::Table;
 use snezhulka::Event;
 
 const POWER: Event = [0, 44, 0, 0];
@@ -28,8 +28,8 @@ fn counted(events: &[Event]) -> Diodes {
 }
 
 // What these tables have met on the first of the two, or on the second, in words.
-fn names(tables: &[Table], place: usize) -> Vec<&'static str> {
-    let met = |table: &Table| table.met(place);
+fn names(tables: &[Table<2>], place: usize) -> Vec<&'static str> {
+    let met = |table: &Table<2>| table.met(place);
     tables.iter().flat_map(met).collect()
 }
 

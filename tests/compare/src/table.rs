@@ -1,18 +1,18 @@
-//! Cases, and how often each was met on the first and on the second of two channels or fans.
+//! Cases, and how often each was met on each of a few channels or fans.
 
-pub struct Table {
-    of: &'static str,
+pub struct Table<const N: usize> {
+    of: [&'static str; N],
     names: &'static [&'static str],
-    counts: Vec<[u64; 2]>,
+    counts: Vec<[u64; N]>,
 }
 
-impl Table {
+impl<const N: usize> Table<N> {
     /// Nothing met yet.
-    pub fn none(of: &'static str, names: &'static [&'static str]) -> Table {
+    pub fn none(of: [&'static str; N], names: &'static [&'static str]) -> Table<N> {
         Table {
             of,
             names,
-            counts: vec![[0; 2]; names.len()],
+            counts: vec![[0; N]; names.len()],
         }
     }
 
@@ -22,7 +22,7 @@ impl Table {
         }
     }
 
-    pub fn add(&mut self, other: &Table) {
+    pub fn add(&mut self, other: &Table<N>) {
         let sums = self.counts.as_flattened_mut().iter_mut();
         for (sum, more) in sums.zip(other.counts.as_flattened()) {
             *sum += more;
@@ -30,12 +30,13 @@ impl Table {
     }
 
     pub fn print(&self) {
-        for (name, [first, second]) in self.names.iter().zip(&self.counts) {
-            println!("{name:<28} {first:>10} {second:>10}");
+        for (name, counts) in self.names.iter().zip(&self.counts) {
+            let columns: String = counts.iter().map(|count| format!(" {count:>10}")).collect();
+            println!("{name:<28}{columns}");
         }
     }
 
-    /// What was met on the first of the two, or on the second.
+    /// What was met on one of them.
     #[cfg(test)]
     pub fn met(&self, place: usize) -> Vec<&'static str> {
         let cases = self.names.iter().zip(&self.counts);
@@ -47,8 +48,8 @@ impl Table {
     pub fn missing(&self) -> Vec<String> {
         let mut missing = Vec::new();
         for (name, counts) in self.names.iter().zip(&self.counts) {
-            for place in (0..2).filter(|&place| counts[place] == 0) {
-                missing.push(format!("{} {}: {name}", self.of, place + 1));
+            for place in (0..N).filter(|&place| counts[place] == 0) {
+                missing.push(format!("{}: {name}", self.of[place]));
             }
         }
         missing
