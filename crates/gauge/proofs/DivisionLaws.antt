@@ -52,7 +52,8 @@ quotient (fin t m e) (fin u n d) s a b h hx hy =
     let P : 0 < n * up d = subst (λ (k : ℕ). 0 < k) (sym Y) (mul-pos h (down-pos d)) in
     let N : n ≡ 0 → ⊥ = λ z. let q : n * up d ≡ 0 = ap (λ (k : ℕ). k * up d) z ∙ zero-mul (up d) in omega arith in
     rw (ne-eqb n 0 N)
-    (ap (λ (k : Bool). round binary64 k (m * up e * down d) (n * up d * down e)) (ap (λ (k : Bool). unlike k u) (hx .0) ∙ ap (λ (k : Bool). unlike s k) (hy .0) ∙ unlike-false s)
+    (ap (λ (k : Bool). round binary64 k (m * up e * down d) (n * up d * down e))
+    (ap (λ (k : Bool). unlike k u) (hx .0) ∙ ap (λ (k : Bool). unlike s k) (hy .0) ∙ unlike-false s)
     ∙ round-same binary64 s (m * up e * down d) (n * up d * down e) a b (mul-pos P (down-pos e)) h
     (ap (λ (k : ℕ). k * down d * b) X ∙ four a b (down d) (down e) ∙ ap (λ (k : ℕ). a * (k * down e)) (sym Y)))
 

@@ -25,7 +25,8 @@ use Rattle.rules.specs.Panels.{panelFor}
 use Rattle.imager.specs.declared.After.{After}
 use Rattle.imager.specs.declared.After.the-variants as after
 use Rattle.imager.specs.Image.{afterBy}
-use Rattle.imager.specs.Figures.{speedFigure, speedCase, panelFigures, panelCases, toldAnswer, figuresPut, casesPut, tooShort, panelAfter, figuresLeft, casesLeft}
+use Rattle.imager.specs.Figures.{speedFigure, speedCase, panelFigures, panelCases, toldAnswer, figuresPut, casesPut}
+use Rattle.imager.specs.Figures.{tooShort, panelAfter, figuresLeft, casesLeft}
 use Rattle.imager.proofs.Laws.{refused-then, kept-then}
 
 -- ---- figures

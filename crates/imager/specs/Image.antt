@@ -37,7 +37,10 @@ afterBy s = cond (eqb (length s % 4) 0) (afterOf (keptBy (length s / 4) s)) (aft
 
 -- what follows from a list: for either refusal, else by its events
 abbrev pub byEvents : {A : Type 0} → (refused : Refusal → A) (of : History → A) → List ℤ → A
-byEvents refused of s = cond (eqb (length s % 4) 0) (cond (allEvents (length s / 4) s) (of (firstEvents (length s / 4) s)) (refused Malformed)) (refused WrongSize)
+byEvents refused of s =
+    cond (eqb (length s % 4) 0)
+    (cond (allEvents (length s / 4) s) (of (firstEvents (length s / 4) s)) (refused Malformed))
+    (refused WrongSize)
 
 -- what the rules answer after the events, and what the buffer then holds
 unfoldable pub imageAfter : (s : List ℤ) (d : List ℕ) → Answer

@@ -106,7 +106,8 @@ module _ (h : History) (f : FanId) where
       let q : n < 255 = rw (count-is h f) at high in
       let z : n ≡ 0 → ⊥ = λ e. omega arith in
       let s : n ≡ 255 → ⊥ = λ e. omega arith in
-      rw (count-is h f, divisor-is, ne-eqb n 0 z, ne-eqb n 255 s) (nearest-quotient 675000 _ (mul-pos p (divisor-within (storedAt (characteristicsAt f) (taken h)) .0)) (omega arith))
+      rw (count-is h f, divisor-is, ne-eqb n 0 z, ne-eqb n 255 s)
+      (nearest-quotient 675000 _ (mul-pos p (divisor-within (storedAt (characteristicsAt f) (taken h)) .0)) (omega arith))
 
 pub page-panel : (h : History) → PagePanel h
 page-panel h =

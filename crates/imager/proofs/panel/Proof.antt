@@ -1,4 +1,5 @@
-use Rattle.imager.proofs.FigureLaws.{short-answer, short-figures, short-cases, refused-answer, refused-figures, refused-cases, all-answer, all-figures, all-cases}
+use Rattle.imager.proofs.FigureLaws.{short-answer, short-figures, short-cases, refused-answer, refused-figures, refused-cases}
+use Rattle.imager.proofs.FigureLaws.{all-answer, all-figures, all-cases}
 use borrow.Author.Needs.{needs}
 use Rattle.imager.proofs.panel.Statement.{statement}
 use Rattle.imager.proofs.panel.Tie as tie

@@ -13,7 +13,9 @@ below-31-bits-requires : tie.Need-below-31-bits-requires
 below-31-bits-requires c κs = search needs
 
 returns : tie.Need-returns
-returns c = whole-short _ (c .before .before .before .is-short .ensures) (c .before .before .if1 .taken) (c .before .truncating-f64-to-u64 .ensures) (c .below-31-bits .ensures)
+returns c =
+    whole-short _ (c .before .before .before .is-short .ensures) (c .before .before .if1 .taken) (c .before .truncating-f64-to-u64 .ensures)
+    (c .below-31-bits .ensures)
 
 returns-2 : tie.Need-returns-2
 returns-2 c = whole-else _ (c .before .is-short .ensures) (c .if1 .left)
