@@ -271,6 +271,18 @@ pub enum Why {
     Refused(Refusal),
 }
 
+// Since when a fan turns (T-07 of document 02): the clock events since it started, modulo 65,536; or why that is not told.
+pub enum Aged {
+    Clocks(u16),
+    Refused(Refusal),
+}
+
+// Why a fan has its duty, and beside it its age in clock events, 0 where nothing is told.
+pub struct Explanation {
+    pub why: Why,
+    pub age: u16,
+}
+
 // The speed of a fan on a panel (T-06 of document 02), by its count: 0, 255, or any other, which gives revolutions a minute.
 pub enum FanSpeed {
     NotMeasured,

@@ -62,14 +62,18 @@ reset-form e y =
 
 -- ---- one event
 
+-- no power, and no software reset by its numbers: it restarts nothing
+pub restart-none : (e : Event) → isKind kind.Power e ≡ false → ((w : ℤ) (b : ℕ) → e ≡ reset w b → bitOf b 7 ≡ false) → restarts e ≡ false
+restart-none e no-power no-reset =
+    rw no-power
+    (by-cases (resets e)
+    (λ y. absurd (true≢false (sym (both (isKind kind.Write e && isNumber (arg e) 1) _ y .1) ∙ no-reset (who e) (byteGiven e) (reset-form e y))))
+    (λ n. n))
+
 module _ (e : Event) (g : History) where
   -- a quiet event restarts nothing and raises no bit
   pub quiet-calm : Quiet e g → restarts e ≡ false
-  quiet-calm q =
-      rw (q .noPower)
-      (by-cases (resets e)
-      (λ y. absurd (true≢false (sym (both (isKind kind.Write e && isNumber (arg e) 1) _ y .1) ∙ q .noReset (who e) (byteGiven e) (reset-form e y))))
-      (λ n. n))
+  quiet-calm q = restart-none e (q .noPower) (q .noReset)
 
   pub quiet-still : Accepted e g → Quiet e g → raises e (taken g) ≡ false
   quiet-still go q = rw (still One, still Two)

@@ -48,4 +48,6 @@ pub mod PageDiodesLaws
 pub mod NearestLaws
 pub mod FloatLaws
 pub mod PagePanelLaws
+pub mod StampLaws
+pub mod PageStampsLaws
 pub mod PageLaws

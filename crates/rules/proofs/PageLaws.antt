@@ -12,6 +12,7 @@ use Rattle.rules.proofs.PageAlertRowLaws.{page-alert-row}
 use Rattle.rules.proofs.PageReasonsLaws.{page-reasons}
 use Rattle.rules.proofs.PageDiodesLaws.{page-diodes}
 use Rattle.rules.proofs.PagePanelLaws.{page-panel}
+use Rattle.rules.proofs.PageStampsLaws.{page-stamps}
 
 pub page : (h : History) → Page h
 page h =
@@ -27,4 +28,5 @@ page h =
       reasons = page-reasons h;
       diodes = page-diodes h;
       panel = page-panel h;
+      stamps = page-stamps h;
     }

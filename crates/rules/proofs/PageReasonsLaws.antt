@@ -4,9 +4,9 @@ use mathlib.Core.Path.{_≡_, refl, sym, ap, _∙_}
 use mathlib.Core.Bool.{true, false, or-true}
 use mathlib.Core.List.{[], _∷_}
 use native.Mathlib.Omega.{arith}
-use lib.IntN.{ℤ, pos}
+use lib.IntN.{ℤ}
 use borrow.Author.Tests.{not-true, ltb-true, eqb-true}
-use Rattle.integer.proofs.BoolLaws.{by-cases, neither}
+use Rattle.integer.proofs.BoolLaws.{by-cases}
 use Rattle.part.specs.declared.ChannelId.{ChannelId}
 use Rattle.part.specs.declared.ChannelId.the-variants.{Local, Remote1}
 use Rattle.part.specs.declared.FanId.{FanId}
@@ -22,11 +22,11 @@ use Rattle.rules.specs.Targets.{target, overridden}
 use Rattle.rules.specs.Duties.{left, spin, duty}
 use Rattle.rules.specs.Reasons.{reasonNumber, whyNumber, lowestWith, reasonFor, whyFor}
 use Rattle.rules.specs.PageWords.{register, dutyOut, errorStatus}
-use Rattle.rules.specs.PageReplies.{same, oneOf}
+use Rattle.rules.specs.PageReplies.{oneOf}
 use Rattle.rules.specs.PageDuties.{running, demanded}
 use Rattle.rules.specs.PageReasons.{inOrder, toldOf, dutyBy, PageReasons}
 use Rattle.rules.proofs.TakenLaws.{took, refused-is}
-use Rattle.rules.proofs.ReplyWords.{same-is}
+use Rattle.rules.proofs.ReplyWords.{neither-fan}
 use Rattle.rules.proofs.ReadingLaws.{reads-back}
 use Rattle.rules.proofs.FanWordsLaws.{output-is}
 use Rattle.rules.proofs.PageDutiesLaws.{page-duties}
@@ -106,11 +106,8 @@ module _ (h : History) (f : FanId) {r : Reason} (told : toldOf f h ≡ Because r
       none off = (unfold whyFor in rw off)
 
 no-fan : (h : History) (n : ℤ) → powered (taken h) ≡ true → oneOf (1 ∷ 2 ∷ []) n ≡ false → whyNumber (whyFor n (taken h)) ≡ 3
-unfolding whyFor oneOf
-no-fan h n on y =
-    let a = neither (same n (pos 1)) _ y in
-    let b = neither (same n (pos 2)) false (a .1) in
-    rw (on, same-is n 1 ∙ a .0, same-is n 2 ∙ b .0)
+unfolding whyFor
+no-fan h n on y = rw (on, neither-fan n y .0, neither-fan n y .1)
 
 order-same : (r : Reason) → reasonNumber r ≡ inOrder r
 order-same reason.Disabled = refl

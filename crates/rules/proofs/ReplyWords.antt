@@ -8,7 +8,7 @@ use lib.Dec.{eqb, leb}
 use lib.IntN.{ℤ, pos, negsuc}
 use lib.Signed.{leZ}
 use borrow.Author.Tests.{eqb-true, eqb-false, leb-true, le-leb, lt-leb}
-use Rattle.integer.proofs.BoolLaws.{by-cases, both}
+use Rattle.integer.proofs.BoolLaws.{by-cases, both, neither}
 use Rattle.rules.specs.Registers.{Row, table, says, existsAt, maskAt, readOnlyAt}
 use Rattle.rules.specs.Events.{isNumber, within, natural, upTo, unused, lies}
 use Rattle.rules.specs.Fields.{rangeCode}
@@ -30,6 +30,14 @@ level m n =
 pub same-is : (v : ℤ) (n : ℕ) → isNumber v n ≡ same v (pos n)
 same-is (pos m) n = sym (level m n)
 same-is (negsuc m) n = refl
+
+-- a number that is no fan's
+pub neither-fan : (n : ℤ) → oneOf (1 ∷ 2 ∷ []) n ≡ false → (isNumber n 1 ≡ false) × (isNumber n 2 ≡ false)
+unfolding oneOf
+neither-fan n y =
+    let a = neither (same n (pos 1)) _ y in
+    let b = neither (same n (pos 2)) false (a .1) in
+    (same-is n 1 ∙ a .0, same-is n 2 ∙ b .0)
 
 pub within-is : (low high : ℕ) (v : ℤ) → within low high v ≡ between (pos low) (pos high) v
 within-is low high (pos m) = refl

@@ -11,6 +11,7 @@ pub mod Shows
 pub mod AlertRow
 pub mod Reasons
 pub mod Panels
+pub mod Stamps
 pub mod Floats
 pub mod PageWords
 pub mod PageReplies
@@ -23,4 +24,5 @@ pub mod PageAlertRow
 pub mod PageReasons
 pub mod PageDiodes
 pub mod PagePanel
+pub mod PageStamps
 pub mod Page
