@@ -12,6 +12,8 @@ use Rattle.chip.specs.Chips.{chipAfter}
 use Rattle.chip.specs.declared.Chip.{Chip}
 use Rattle.output.specs.Outputs.{statusOf, intDueOf}
 use Rattle.device.specs.declared.Device.{Device}
+use Rattle.device.specs.declared.Stamps.{Stamps}
+use Rattle.device.specs.Stamping.{stampsAfter}
 use Rattle.device.specs.Devices.{raisesIn, silencedAfter, deviceAfter}
 
 pub risen-is : (was now k : ℕ) {a b : Bool} → a ≡ bitOf was k → b ≡ bitOf now k → (not a && b) ≡ risen was now k
@@ -45,7 +47,8 @@ module _ (i : Input) (was : Bool) (before after : Chip) {r : Bool} (is : r ≡ i
       free-still n = rw (sym is ∙ no, free, sym kind ∙ n)
 
 pub device-is :
-    (i : Input) (d : Device) {after : Chip} {silenced : Bool} → after ≡ chipAfter i (d .chip) → silenced ≡ silencedAfter i (d .silenced) (d .chip) after
-    → _≡_ {A = Device} (record { chip = after; silenced = silenced }) (deviceAfter i d)
+    (i : Input) (d : Device) {after : Chip} {silenced : Bool} {stamps : Stamps} → after ≡ chipAfter i (d .chip)
+    → silenced ≡ silencedAfter i (d .silenced) (d .chip) after → stamps ≡ stampsAfter i (d .stamps) (d .chip) after
+    → _≡_ {A = Device} (record { chip = after; silenced = silenced; stamps = stamps }) (deviceAfter i d)
 unfolding deviceAfter
-device-is i d p q = rw (q, p)
+device-is i d p q r = rw (q, r, p)

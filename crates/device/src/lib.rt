@@ -1,16 +1,27 @@
-// A chip and its INT line: an alert lets INT go, until a status bit goes from 0 to 1, a reset or a power (T-02 of document 02).
-// Chip, channels and fans know nothing of it: it follows from the event, the chip before it and the chip after it.
+// A chip, its INT line, which an alert lets go until a status bit rises, a reset or a power (T-02 of document 02), and its stamps (T-07).
+// Chip, channels and fans know nothing of either: both follow from the event, the chip before it and the chip after it.
+mod stamping;
+
 use chip::Chip;
 use event::Kind;
 use input::Input;
 use part::FanId;
+pub use stamping::age;
 ghost use mathlib.Core.Path.{_≡_};
 ghost use Rattle.rules.specs.Shows.{risen, someRisen};
 ghost use Rattle.device.specs.Devices.{raisesIn, silencedAfter, deviceAfter};
 
+// The stamp, and that of each fan when it last started.
+pub struct Stamps {
+    pub now: u16,
+    pub fan1: u16,
+    pub fan2: u16,
+}
+
 pub struct Device {
     pub chip: Chip,
     pub silenced: bool,
+    pub stamps: Stamps,
 }
 
 // Whether the bit of a byte at a place goes from 0 to 1.
@@ -59,15 +70,17 @@ fn silenced_after(i: Input, was: bool, before: Chip, after: Chip) -> bool
     }
 }
 
-// Chip and INT line after an accepted event.
+// All of it after an accepted event.
 pub fn device_after(i: Input, d: Device) -> Device
     ensures { λ x. ⌜ x ≡ deviceAfter i d ⌝ }
 {
     let before = d.chip;
     let after = chip::chip_after(i, before);
     let silenced = silenced_after(i, d.silenced, before, after);
+    let stamps = stamping::stamps_after(i, d.stamps, before, after);
     Device {
         chip: after,
         silenced,
+        stamps,
     }
 }

@@ -1,8 +1,8 @@
--- The lines have at most 52 bytes, whatever the text. Assumes nothing.
+-- The lines have at most 74 bytes, whatever the text: those of reasons at most 26 each, those of ages at most 11. Assumes nothing.
 use Prim.Native.Nat.{ℕ, _+_, _-_, _≤_}
 use mathlib.Core.Path.{_≡_, refl}
 use mathlib.Core.Bool.{Bool, true, false, not, _&&_}
-use mathlib.Core.List.{List, [], _∷_}
+use mathlib.Core.List.{List, [], _∷_, _++_}
 use native.Mathlib.Omega.{arith}
 use lib.Dec.{eqb, ltb}
 use lib.IntN.{pos}
@@ -27,11 +27,12 @@ use Rattle.rules.specs.Targets.{target}
 use Rattle.rules.specs.Replies.{History, taken}
 use Rattle.rules.specs.Events.{channelNumber, fanNumber, restarts}
 use Rattle.rules.specs.Reasons.{rampTo, reasonFor, whyFor}
+use Rattle.rules.specs.Stamps.{age, ageFor}
 use Rattle.rules.specs.Duties.{enabled, filtered, spinUpOf, Spin, left, prior, spinUpStarts, givenAfter, sinceAfter, dutyAfter, spinAt, spinAfter, spin, duty}
 use Rattle.rules.proofs.FanWordsLaws.{at-each}
 use Rattle.history.proofs.BoundsLaws.{target-small, bounds}
 use Rattle.runner.proofs.LinesLaws.{lines-within}
-use Rattle.explainer.specs.Words.{directionWord, rampWords, reasonWords, reasonLine}
+use Rattle.explainer.specs.Words.{directionWord, rampWords, reasonWords, reasonLine, ageLine, fanLines}
 use Rattle.explainer.specs.Explained.{toldText, reasonLines, explained}
 
 -- ---- a spin-up has at most 80 clocks
@@ -129,14 +130,28 @@ line-short f h =
     let r = reasonFor f (taken h) in
     omega (arith, line-length f r, one-fan f, short r (small f (taken h) (bounds h .slots f)))
 
-told-short : (h : History) → length (reasonLines h) ≤ 52
-unfolding toldText whyFor
+age-length : (f : FanId) (n : ℕ) → length (ageLine f n) ≡ 5 + length (decimalOf (fanNumber f)) + length (decimalOf n)
+unfolding ageLine
+age-length f n = simp length-append (omega arith)
+
+age-short : (f : FanId) (h : History) → length (ageLine f (age f (taken h))) ≤ 11
+unfolding age
+age-short f h =
+    let n = age f (taken h) in
+    omega (arith, age-length f n, one-fan f, decimal-width 4 n (omega arith))
+
+told-short : (h : History) → length (reasonLines h) ≤ 74
+unfolding toldText whyFor ageFor fanLines
 told-short h =
     let one = reasonLine One (reasonFor One (taken h)) in
     let two = reasonLine Two (reasonFor Two (taken h)) in
+    let age1 = ageLine One (age One (taken h)) in
+    let age2 = ageLine Two (age Two (taken h)) in
+    let reasons : length (one ++ two) ≤ 52 = omega (arith, length-append one two, line-short One h, line-short Two h) in
+    let ages : length (age1 ++ age2) ≤ 22 = omega (arith, length-append age1 age2, age-short One h, age-short Two h) in
     by-cases (powered (taken h))
-    (λ p. rw p (omega (arith, length-append one two, line-short One h, line-short Two h)))
+    (λ p. rw p (omega (arith, length-append (one ++ two) (age1 ++ age2), reasons, ages)))
     (λ p. rw p (omega arith))
 
-pub lines-short : (text : List ℕ) → length (explained text) ≤ 52
-lines-short text = lines-within reasonLines 52 (omega arith) told-short text
+pub lines-short : (text : List ℕ) → length (explained text) ≤ 74
+lines-short text = lines-within reasonLines 74 (omega arith) told-short text

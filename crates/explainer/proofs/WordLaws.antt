@@ -1,4 +1,4 @@
--- The words of reasons: put one behind the other in an array aside, and how long they are. Assumes nothing.
+-- The words of reasons and ages: put one behind the other in an array aside, and how long they are. Assumes nothing.
 use Prim.Native.Nat.{ℕ, _+_, _-_, _≤_, _<_}
 use mathlib.Core.Path.{_≡_}
 use mathlib.Core.Bool.{Bool}
@@ -18,26 +18,26 @@ use Rattle.rules.specs.Events.{channelNumber, fanNumber}
 use Rattle.decimal.specs.Decimal.{decimalOf}
 use Rattle.decimal.proofs.Laws.{decimal-width}
 use Rattle.buffer.proofs.TextLaws.{then, end-then, aside}
-use Rattle.explainer.specs.Words.{directionWord, rampWords, reasonWords, reasonLine}
+use Rattle.explainer.specs.Words.{directionWord, rampWords, reasonWords, reasonLine, ageLine, fanLines}
 
 -- ---- a word and a number
 
-module _ (word : List ℕ) (n at : ℕ) (small : n < 1000) {a k : ℕ} (qa : a ≡ at + length word) (qk : k ≡ length (decimalOf n)) where
-  pub numbered-near : a + k ≤ at + length word + 3
-  numbered-near = omega (arith, decimal-width 2 n small)
+module _ (word : List ℕ) (n at : ℕ) (small : n < 100000) {a k : ℕ} (qa : a ≡ at + length word) (qk : k ≡ length (decimalOf n)) where
+  pub numbered-near : a + k ≤ at + length word + 5
+  numbered-near = omega (arith, decimal-width 4 n small)
 
-  pub numbered-fits : at + length word ≤ 61 → Fits w64 (a + k)
+  pub numbered-fits : at + length word ≤ 123 → Fits w64 (a + k)
   numbered-fits h = omega (arith, numbered-near)
 
   pub numbered-end : a + k ≡ at + length (word ++ decimalOf n)
   numbered-end = omega (arith, length-append word (decimalOf n))
 
-pub channel-small : (c : ChannelId) {n : ℕ} → n ≡ channelNumber c → n < 1000
+pub channel-small : (c : ChannelId) {n : ℕ} → n ≡ channelNumber c → n < 100000
 channel-small Local q = omega arith
 channel-small Remote1 q = omega arith
 channel-small Remote2 q = omega arith
 
-pub fan-small : (f : FanId) {n : ℕ} → n ≡ fanNumber f → n < 1000
+pub fan-small : (f : FanId) {n : ℕ} → n ≡ fanNumber f → n < 100000
 fan-small One q = omega arith
 fan-small Two q = omega arith
 
@@ -98,12 +98,53 @@ module _ (f : FanId) (r : Reason) {n : ℕ} (q : n ≡ fanNumber f) (at a b : �
       (then d d1 d4 (fan-word ++ decimalOf n) ((61 ∷ []) ++ (reasonWords r ++ (10 ∷ []))) at a h1 qa
       (then d1 d2 d4 (61 ∷ []) (reasonWords r ++ (10 ∷ [])) a b h2 qb (then d2 d3 d4 (reasonWords r) (10 ∷ []) b c h3 qc h4)))
 
--- ---- both lines, aside
+-- ---- the line of its age
 
-module _ (one two : Reason) (z d1 : List ℕ) (a : ℕ) {d2 : List ℕ} {b : ℕ} (h1 : d1 ≡ sets z 0 (reasonLine One one)) (q1 : a ≡ 0 + length (reasonLine One one))
-    (h2 : d2 ≡ sets d1 a (reasonLine Two two)) (q2 : b ≡ a + length (reasonLine Two two)) (n2 : b ≤ a + 28) (n1 : a ≤ 28) (l : length z ≡ 64) where
-  pub lines-aside : take (b - 0) (drop 0 d2) ≡ reasonLine One one ++ reasonLine Two two
-  lines-aside =
-      let q : b ≡ 0 + length (reasonLine One one ++ reasonLine Two two) = end-then (reasonLine One one) (reasonLine Two two) 0 a b q1 q2 in
-      let h : d2 ≡ sets z 0 (reasonLine One one ++ reasonLine Two two) = then z d1 d2 (reasonLine One one) (reasonLine Two two) 0 a h1 q1 h2 in
-      aside z (reasonLine One one ++ reasonLine Two two) h q (omega arith)
+abbrev age-word : List ℕ
+age-word = 97 ∷ 103 ∷ 101 ∷ []
+
+module _ (f : FanId) (clocks : ℕ) {n : ℕ} (q : n ≡ fanNumber f) (at a : ℕ) {b : ℕ} (qa : a ≡ at + length (age-word ++ decimalOf n))
+    (qb : b ≡ a + length ((61 ∷ []) ++ decimalOf clocks)) where
+  age-is : (age-word ++ decimalOf n) ++ (((61 ∷ []) ++ decimalOf clocks) ++ (10 ∷ [])) ≡ ageLine f clocks
+  unfolding ageLine
+  age-is = rw q
+
+  pub age-end : {e : ℕ} → e ≡ b + 1 → e ≡ at + length (ageLine f clocks)
+  age-end {e} h =
+      rw (← age-is)
+      (end-then (age-word ++ decimalOf n) (((61 ∷ []) ++ decimalOf clocks) ++ (10 ∷ [])) at a e qa
+      (end-then ((61 ∷ []) ++ decimalOf clocks) (10 ∷ []) a b e qb h))
+
+  pub age-put : (d d1 d2 : List ℕ) {d3 : List ℕ} → d1 ≡ sets d at (age-word ++ decimalOf n) → d2 ≡ sets d1 a ((61 ∷ []) ++ decimalOf clocks)
+      → d3 ≡ set d2 b 10 → d3 ≡ sets d at (ageLine f clocks)
+  age-put d d1 d2 {d3} h1 h2 h3 =
+      rw (← age-is)
+      (then d d1 d3 (age-word ++ decimalOf n) (((61 ∷ []) ++ decimalOf clocks) ++ (10 ∷ [])) at a h1 qa
+      (then d1 d2 d3 ((61 ∷ []) ++ decimalOf clocks) (10 ∷ []) a b h2 qb h3))
+
+-- ---- all four lines, aside
+
+module _ (one two : Reason) (m n : ℕ) (z d1 d2 d3 : List ℕ) (a b c : ℕ) {d4 : List ℕ} {e : ℕ} (h1 : d1 ≡ sets z 0 (reasonLine One one))
+    (q1 : a ≡ 0 + length (reasonLine One one)) (n1 : a ≤ 34) (h2 : d2 ≡ sets d1 a (reasonLine Two two)) (q2 : b ≡ a + length (reasonLine Two two))
+    (n2 : b ≤ a + 34) (h3 : d3 ≡ sets d2 b (ageLine One m)) (q3 : c ≡ b + length (ageLine One m)) (n3 : c ≤ b + 15) (h4 : d4 ≡ sets d3 c (ageLine Two n))
+    (q4 : e ≡ c + length (ageLine Two n)) (n4 : e ≤ c + 15) (l : length z ≡ 128) where
+  abbrev reasons : List ℕ
+  reasons = reasonLine One one ++ reasonLine Two two
+
+  abbrev ages : List ℕ
+  ages = ageLine One m ++ ageLine Two n
+
+  reasons-end : b ≡ 0 + length reasons
+  reasons-end = end-then (reasonLine One one) (reasonLine Two two) 0 a b q1 q2
+
+  lines-end : e ≡ 0 + length (reasons ++ ages)
+  lines-end = end-then reasons ages 0 b e reasons-end (end-then (ageLine One m) (ageLine Two n) b c e q3 q4)
+
+  lines-put : d4 ≡ sets z 0 (reasons ++ ages)
+  lines-put =
+      then z d2 d4 reasons ages 0 b (then z d1 d2 (reasonLine One one) (reasonLine Two two) 0 a h1 q1 h2) reasons-end
+      (then d2 d3 d4 (ageLine One m) (ageLine Two n) b c h3 q3 h4)
+
+  pub lines-aside : take (e - 0) (drop 0 d4) ≡ fanLines one two m n
+  unfolding fanLines
+  lines-aside = aside z (reasons ++ ages) lines-put lines-end (omega (arith, lines-end))

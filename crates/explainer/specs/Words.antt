@@ -1,9 +1,10 @@
--- The words of a reason (T-03 of document 02), as the program `why` prints them. Names are bytes.
+-- The words of a reason (T-03 of document 02) and of an age (T-07), as the program `why` prints them. Names are bytes.
 use Prim.Native.Nat.{ℕ}
 use mathlib.Core.Bool.{Bool, true, false}
 use mathlib.Core.List.{List, [], _∷_, _++_}
 use Rattle.decimal.specs.Decimal.{decimalOf}
 use Rattle.part.specs.declared.FanId.{FanId}
+use Rattle.part.specs.declared.FanId.the-variants.{One, Two}
 use Rattle.event.specs.declared.Ramp.{Ramp}
 use Rattle.event.specs.declared.Reason.{Reason}
 use Rattle.event.specs.declared.Reason.the-variants as reason
@@ -35,3 +36,13 @@ reasonWords (reason.Demand c) = (100 ∷ 101 ∷ 109 ∷ 97 ∷ 110 ∷ 100 ∷ 
 unfoldable pub reasonLine : FanId → Reason → List ℕ
 unfolding decimalOf reasonWords
 reasonLine f r = (114 ∷ 101 ∷ 97 ∷ 115 ∷ 111 ∷ 110 ∷ []) ++ (decimalOf (fanNumber f) ++ ((61 ∷ []) ++ (reasonWords r ++ (10 ∷ []))))
+
+-- age1= or age2=, the clock events and a newline
+unfoldable pub ageLine : FanId → (clocks : ℕ) → List ℕ
+unfolding decimalOf
+ageLine f n = (97 ∷ 103 ∷ 101 ∷ []) ++ (decimalOf (fanNumber f) ++ ((61 ∷ []) ++ (decimalOf n ++ (10 ∷ []))))
+
+-- both reasons, then both ages
+unfoldable pub fanLines : (one two : Reason) (age1 age2 : ℕ) → List ℕ
+unfolding reasonLine ageLine
+fanLines one two age1 age2 = (reasonLine One one ++ reasonLine Two two) ++ (ageLine One age1 ++ ageLine Two age2)

@@ -1,8 +1,9 @@
-// Trace text in, why both fans have their duties after its last event out, as lines.
+// Trace text in, why both fans have their duties after its last event and since when they turn out, as lines.
 // A buffer too short for the lines stays as it was.
 mod words;
 
 use buffer::Put;
+use event::Explanation;
 use event::Why;
 use runner::Last;
 ghost use mathlib.Core.Path.{_≡_};
@@ -10,13 +11,15 @@ ghost use Rattle.buffer.specs.Put.{putOf, heldOf};
 ghost use Rattle.explainer.specs.Explained.{toldText, explained};
 
 // What is told of both fans.
-fn put_told(one: Why, two: Why, buf: &mut [u8]) -> Put
-    ensures { λ p. ⌜ p ≡ putOf (now (buf .entry)) 0 (toldText one two) ⌝ }
-    ensures { λ _. ⌜ now (buf .exit) ≡ heldOf (now (buf .entry)) 0 (toldText one two) ⌝ }
+fn put_told(one: Explanation, two: Explanation, buf: &mut [u8]) -> Put
+    ensures { λ p. ⌜ p ≡ putOf (now (buf .entry)) 0 (toldText (one .why) (two .why) (one .age) (two .age)) ⌝ }
+    ensures { λ _. ⌜ now (buf .exit) ≡ heldOf (now (buf .entry)) 0 (toldText (one .why) (two .why) (one .age) (two .age)) ⌝ }
 {
-    match one {
-        Why::Because(a) => match two {
-            Why::Because(b) => words::put_lines(a, b, buf),
+    let first = one.why;
+    let second = two.why;
+    match first {
+        Why::Because(a) => match second {
+            Why::Because(b) => words::put_lines(a, b, one.age, two.age, buf),
             Why::Refused(r) => report::put_refusal(r, buf),
         },
         Why::Refused(r) => report::put_refusal(r, buf),

@@ -1,5 +1,5 @@
-// The lines of both reasons, in words: put together aside, and then put whole.
-// Two lines are shorter than 64 bytes.
+// The lines of both reasons, in words, and of both ages: put together aside, and then put whole.
+// All four are shorter than 128 bytes.
 use buffer::Put;
 use event::Ramp;
 use event::Reason;
@@ -13,11 +13,11 @@ ghost use lib.Seq.{sets};
 ghost use Rattle.decimal.specs.Decimal.{decimalOf};
 ghost use Rattle.rules.specs.Events.{channelNumber};
 ghost use Rattle.buffer.specs.Put.{putOf, heldOf};
-ghost use Rattle.explainer.specs.Words.{rampWords, reasonWords, reasonLine};
+ghost use Rattle.explainer.specs.Words.{rampWords, reasonWords, reasonLine, ageLine, fanLines};
 
 // A word at an index of a short text, and the index after it.
 fn put_word(word: &[u8], text: &mut [u8], at: usize) -> usize
-    requires { ⌜ at + length (now word) ≤ 64 ⌝ }
+    requires { ⌜ at + length (now word) ≤ 128 ⌝ }
     ensures { λ e. ⌜ e ≡ at + length (now (word .entry)) ⌝ }
     ensures { λ _. ⌜ now (text .exit) ≡ sets (now (text .entry)) at (now (word .entry)) ⌝ }
 {
@@ -27,8 +27,8 @@ fn put_word(word: &[u8], text: &mut [u8], at: usize) -> usize
 
 // A word and a number likewise; then a word and a channel.
 fn put_numbered(word: &[u8], n: u32, text: &mut [u8], at: usize) -> usize
-    requires { ⌜ (at + length (now word) ≤ 61) × (n < 1000) ⌝ }
-    ensures { λ e. ⌜ (e ≡ at + length (now (word .entry) ++ decimalOf n)) × (e ≤ at + length (now (word .entry)) + 3) ⌝ }
+    requires { ⌜ (at + length (now word) ≤ 123) × (n < 100000) ⌝ }
+    ensures { λ e. ⌜ (e ≡ at + length (now (word .entry) ++ decimalOf n)) × (e ≤ at + length (now (word .entry)) + 5) ⌝ }
     ensures { λ _. ⌜ now (text .exit) ≡ sets (now (text .entry)) at (now (word .entry) ++ decimalOf n) ⌝ }
 {
     let a = put_word(word, text, at);
@@ -36,8 +36,8 @@ fn put_numbered(word: &[u8], n: u32, text: &mut [u8], at: usize) -> usize
 }
 
 fn put_channel(word: &[u8], c: ChannelId, text: &mut [u8], at: usize) -> usize
-    requires { ⌜ at + length (now word) ≤ 61 ⌝ }
-    ensures { λ e. ⌜ (e ≡ at + length (now (word .entry) ++ decimalOf (channelNumber c))) × (e ≤ at + length (now (word .entry)) + 3) ⌝ }
+    requires { ⌜ at + length (now word) ≤ 123 ⌝ }
+    ensures { λ e. ⌜ (e ≡ at + length (now (word .entry) ++ decimalOf (channelNumber c))) × (e ≤ at + length (now (word .entry)) + 5) ⌝ }
     ensures { λ _. ⌜ now (text .exit) ≡ sets (now (text .entry)) at (now (word .entry) ++ decimalOf (channelNumber c)) ⌝ }
 {
     put_numbered(word, input::channel_number(c), text, at)
@@ -45,8 +45,8 @@ fn put_channel(word: &[u8], c: ChannelId, text: &mut [u8], at: usize) -> usize
 
 // The slots left, the direction, the target.
 fn put_ramp(r: Ramp, text: &mut [u8], at: usize) -> usize
-    requires { ⌜ at + 17 ≤ 64 ⌝ }
-    ensures { λ e. ⌜ (e ≡ at + length (rampWords r)) × (e ≤ at + 17) ⌝ }
+    requires { ⌜ at + 21 ≤ 128 ⌝ }
+    ensures { λ e. ⌜ (e ≡ at + length (rampWords r)) × (e ≤ at + 21) ⌝ }
     ensures { λ _. ⌜ now (text .exit) ≡ sets (now (text .entry)) at (rampWords r) ⌝ }
 {
     let a = put_numbered(b"ramp ", r.left as u32, text, at);
@@ -59,8 +59,8 @@ fn put_ramp(r: Ramp, text: &mut [u8], at: usize) -> usize
 
 // The words of a reason.
 fn put_reason(r: Reason, text: &mut [u8], at: usize) -> usize
-    requires { ⌜ at + 17 ≤ 64 ⌝ }
-    ensures { λ e. ⌜ (e ≡ at + length (reasonWords r)) × (e ≤ at + 17) ⌝ }
+    requires { ⌜ at + 21 ≤ 128 ⌝ }
+    ensures { λ e. ⌜ (e ≡ at + length (reasonWords r)) × (e ≤ at + 21) ⌝ }
     ensures { λ _. ⌜ now (text .exit) ≡ sets (now (text .entry)) at (reasonWords r) ⌝ }
 {
     match r {
@@ -77,8 +77,8 @@ fn put_reason(r: Reason, text: &mut [u8], at: usize) -> usize
 
 // The line of a fan.
 fn put_line(f: FanId, r: Reason, text: &mut [u8], at: usize) -> usize
-    requires { ⌜ at + 28 ≤ 64 ⌝ }
-    ensures { λ e. ⌜ (e ≡ at + length (reasonLine f r)) × (e ≤ at + 28) ⌝ }
+    requires { ⌜ at + 34 ≤ 128 ⌝ }
+    ensures { λ e. ⌜ (e ≡ at + length (reasonLine f r)) × (e ≤ at + 34) ⌝ }
     ensures { λ _. ⌜ now (text .exit) ≡ sets (now (text .entry)) at (reasonLine f r) ⌝ }
 {
     let a = put_numbered(b"reason", input::fan_number(f), text, at);
@@ -87,13 +87,26 @@ fn put_line(f: FanId, r: Reason, text: &mut [u8], at: usize) -> usize
     put_word(b"\n", text, c)
 }
 
-// The lines of both fans into a lent buffer: where they end; or 11, and the buffer as it was.
-pub fn put_lines(one: Reason, two: Reason, buf: &mut [u8]) -> Put
-    ensures { λ p. ⌜ p ≡ putOf (now (buf .entry)) 0 (reasonLine FanId.One one ++ reasonLine FanId.Two two) ⌝ }
-    ensures { λ _. ⌜ now (buf .exit) ≡ heldOf (now (buf .entry)) 0 (reasonLine FanId.One one ++ reasonLine FanId.Two two) ⌝ }
+// The line of its age.
+fn put_age(f: FanId, clocks: u16, text: &mut [u8], at: usize) -> usize
+    requires { ⌜ at + 15 ≤ 128 ⌝ }
+    ensures { λ e. ⌜ (e ≡ at + length (ageLine f clocks)) × (e ≤ at + 15) ⌝ }
+    ensures { λ _. ⌜ now (text .exit) ≡ sets (now (text .entry)) at (ageLine f clocks) ⌝ }
 {
-    let mut text = [0u8; 64];
+    let a = put_numbered(b"age", input::fan_number(f), text, at);
+    let b = put_numbered(b"=", clocks as u32, text, a);
+    put_word(b"\n", text, b)
+}
+
+// The lines of both fans into a lent buffer: where they end; or 11, and the buffer as it was.
+pub fn put_lines(one: Reason, two: Reason, age1: u16, age2: u16, buf: &mut [u8]) -> Put
+    ensures { λ p. ⌜ p ≡ putOf (now (buf .entry)) 0 (fanLines one two age1 age2) ⌝ }
+    ensures { λ _. ⌜ now (buf .exit) ≡ heldOf (now (buf .entry)) 0 (fanLines one two age1 age2) ⌝ }
+{
+    let mut text = [0u8; 128];
     let a = put_line(FanId::One, one, &mut text, 0);
     let b = put_line(FanId::Two, two, &mut text, a);
-    buffer::put_whole(&text[0..b], buf, 0)
+    let c = put_age(FanId::One, age1, &mut text, b);
+    let d = put_age(FanId::Two, age2, &mut text, c);
+    buffer::put_whole(&text[0..d], buf, 0)
 }

@@ -23,6 +23,7 @@ use Rattle.rules.specs.Temperatures.{temperature, latch, thermAsserted, highBit
 use Rattle.rules.specs.Targets.{flag, overridden}
 use Rattle.rules.specs.Duties.{spin, duty, failures, atAlarm, alarmBit, faultBit}
 use Rattle.rules.specs.Shows as shows
+use Rattle.rules.specs.Stamps.{clocks, stamp, fanStamp}
 use Rattle.input.specs.Inputs.{plainOf, inputOf}
 use Rattle.judge.specs.Judged.{lowestIn}
 use Rattle.judge.specs.declared.Standing.{Standing}
@@ -36,15 +37,16 @@ use Rattle.chip.specs.declared.Chip.{Chip}
 use Rattle.device.specs.Devices.{deviceAfter}
 use Rattle.device.specs.declared.Device.{Device}
 use Rattle.keeper.specs.Keeping as keeping
-use Rattle.keeper.specs.Keeping.{isOn, deviceIn, standingOf, outcomeOf, shownBy}
+use Rattle.keeper.specs.Keeping.{isOn, deviceIn, standingOf, outcomeOf, shownBy, stampBy}
 use Rattle.keeper.specs.declared.Keeper.{Keeper}
 use Rattle.keeper.specs.declared.Keeper.the-variants.{Off, On}
 use Rattle.keeper.specs.declared.Outcome.{Outcome}
 use Rattle.reason.specs.Reasoning.{whyOf}
+use Rattle.reason.specs.Aging.{explanationOf, agedOf}
 use Rattle.gauge.specs.Gauges.{paneledOf}
 use Rattle.history.specs.Agreement.{run, Agreement}
 use Rattle.history.proofs.State.{portBy, channelRegistersBy, fanRegistersBy, registersBy, contextBy, channelBy, channelsBy, fanBy, chipBy}
-use Rattle.history.proofs.State.{deviceBy, stateBy}
+use Rattle.history.proofs.State.{stampsBy, deviceBy, stateBy}
 use Rattle.rules.proofs.TakenLaws.{Took, none, more, took, went, on-after, off-none, own-small}
 use Rattle.rules.proofs.StoredLaws.{byte}
 use Rattle.history.proofs.AcceptedLaws.{restart-is}
@@ -53,6 +55,7 @@ use Rattle.history.proofs.FanLaws.{fan-is}
 use Rattle.history.proofs.ValueLaws.{value-is, due-is, shown-on, status-is}
 use Rattle.history.proofs.ReasonLaws.{why-is}
 use Rattle.history.proofs.PanelLaws.{panel-is}
+use Rattle.history.proofs.StampLaws.{stamps-is, stamp-is, age-is, explanation-is}
 
 -- ---- one event
 
@@ -65,20 +68,29 @@ module _ (e : Event) (d : Taken) (fine : replies.outOfRange e ≡ false) (small 
   unfolding chipAfter chipUnder chipBy portBy
   chip-is = rw (registers-is e d fine, channels-is e d fine small, port-is e d fine) with-is
 
-  -- INT's line too
+  -- INT's line and the stamps too
   device-is : deviceAfter (inputOf e) (deviceBy d) ≡ deviceBy (e ∷ d)
   unfolding deviceAfter deviceBy shows.silenced
   device-is =
-      rw (chip-is, restart-is e fine, status-is One d, status-is Two d, status-is One (e ∷ d), status-is Two (e ∷ d), due-is d)
+      rw (
+        chip-is,
+        stamps-is e d fine,
+        restart-is e fine,
+        status-is One d,
+        status-is Two d,
+        status-is One (e ∷ d),
+        status-is Two (e ∷ d),
+        due-is d,
+      )
 
 -- ---- the keeper
 
 -- a keeper that never had power has the device of the empty list
 device-in : {d : Taken} → Took d → deviceIn (stateBy d) ≡ deviceBy d
 device-in none =
-    (unfold stateBy deviceBy shows.silenced powered chipBy portBy registersBy channelRegistersBy fanRegistersBy channelsBy channelBy fanBy ownAddress
-    storedAt pointer pinLow diodeError pulledBit temperature latch flag highBit lowBit thermBit eighthsOf spin failures atAlarm overridden thermAsserted
-    alarmBit faultBit in
+    (unfold stateBy deviceBy shows.silenced stampsBy stamp clocks fanStamp powered chipBy portBy registersBy channelRegistersBy fanRegistersBy channelsBy
+    channelBy fanBy ownAddress storedAt pointer pinLow diodeError pulledBit temperature latch flag highBit lowBit thermBit eighthsOf spin failures atAlarm
+    overridden thermAsserted alarmBit faultBit in
     refl)
 device-in (more {e = e} {d = d} go t) = (unfold stateBy in rw (on-after e d go))
 
@@ -140,9 +152,12 @@ agree (e ∷ h) =
     ap (λ (k : Keeper). (outcomeOf k e) .keeper) (agree h) ∙ ap (λ (a : Outcome). a .keeper) (step-is e (took h))
     ∙ by-cases (accepts (replyTo e (taken h))) (λ go. rw go) (λ bad. rw bad)
 
+pub device-run : (h : History) → deviceIn (run h) ≡ deviceBy (taken h)
+device-run h = ap deviceIn (agree h) ∙ device-in (took h)
+
 pub chip-run : (h : History) → keeping.chipIn (run h) ≡ chipBy (taken h)
 unfolding deviceBy
-chip-run h = ap keeping.chipIn (agree h) ∙ ap (λ (x : Device). x .chip) (device-in (took h))
+chip-run h = ap (λ (x : Device). x .chip) (device-run h)
 
 module _ (e : Event) (h : History) where
   answer-is : (outcomeOf (stateBy (taken h)) e) .answer ≡ shows.answer e h
@@ -180,4 +195,7 @@ agreement h =
       buffer = λ buffer. ap (λ (k : Keeper). keeping.imageBuffer k buffer) (agree h) ∙ buffer-is (took h) buffer;
       why = λ fan. ap (λ (k : Keeper). whyOf k fan) (agree h) ∙ why-is (taken h) fan;
       panel = ap paneledOf (agree h) ∙ panel-is (taken h);
+      stamp = ap stampBy (agree h) ∙ stamp-is (took h);
+      age = λ fan. ap (λ (k : Keeper). agedOf k fan) (agree h) ∙ age-is (taken h) fan;
+      explanation = λ fan. ap (λ (k : Keeper). explanationOf k fan) (agree h) ∙ explanation-is (taken h) fan;
     }

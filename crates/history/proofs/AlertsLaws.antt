@@ -27,7 +27,7 @@ use Rattle.history.specs.Demand3.{Settled, Stretch}
 use Rattle.history.specs.MovingTarget.{Within, MovingStretch}
 use Rattle.history.specs.Alerts.{Alerts}
 use Rattle.history.proofs.State.{chipBy, deviceBy, stateBy}
-use Rattle.history.proofs.IdleChipLaws.{chip-same, calm}
+use Rattle.history.proofs.IdleChipLaws.{chip-same, stamps-same, calm}
 use Rattle.history.proofs.Agree.{agree, agreement, chip-run}
 
 -- ---- the keeper
@@ -50,6 +50,7 @@ module _ (e : Event) (h : History) (alerts : isKind kind.Alert e ≡ true) where
       through deviceBy
       (rw (
         chip-same e (taken h) (alert.is-not e (taken h) alerts) (alert.errors e (taken h) alerts),
+        stamps-same e (taken h) (alert.is-not e (taken h) alerts) (alert.errors e (taken h) alerts),
         alert.silence-is e (taken h) alerts,
         not-begun z,
       ))

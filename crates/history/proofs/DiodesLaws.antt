@@ -24,7 +24,7 @@ use Rattle.rules.proofs.PageDiodesLaws.{page-diodes}
 use Rattle.history.specs.Agreement.{run}
 use Rattle.history.specs.Diodes.{Diodes}
 use Rattle.history.proofs.State.{deviceBy, stateBy}
-use Rattle.history.proofs.IdleChipLaws.{chip-same, calm}
+use Rattle.history.proofs.IdleChipLaws.{chip-same, stamps-same, calm}
 use Rattle.history.proofs.Agree.{agree}
 
 -- events that leave the state that the rules describe leave the keeper
@@ -53,6 +53,7 @@ module _ (h : History) (c : ChannelId) (n : ℕ) (known : errorStatus c h ≡ eq
       let other = is-not c (pos n) in
       rw (
         chip-same e d other errors,
+        stamps-same e d other errors,
         silence-kept e d (idle.bits e d other) errors (idle.settled e d other) (of-kind e 10 (is-report c (pos n)) kind.Alert),
       )
 

@@ -5,6 +5,7 @@ pub mod StepLaws
 pub mod FanLaws
 pub mod ReasonLaws
 pub mod PanelLaws
+pub mod StampLaws
 pub mod ValueLaws
 pub mod Agree
 pub mod Demand1Laws
@@ -22,5 +23,6 @@ pub mod AlertWitnessLaws
 pub mod ReasonWitnessLaws
 pub mod DiodeWitnessLaws
 pub mod PanelWitnessLaws
+pub mod StampWitnessLaws
 pub mod WitnessLaws
 pub mod Proved

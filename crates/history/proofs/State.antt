@@ -13,6 +13,7 @@ use Rattle.rules.specs.Temperatures.{temperature, latch, highBit, lowBit, therm
 use Rattle.rules.specs.Targets.{flag, target, overridden}
 use Rattle.rules.specs.Duties.{enabled, filtered, rate, spinUpClocks, Spin, left, spin, failures, atAlarm, alarmBit, faultBit}
 use Rattle.rules.specs.Shows.{silenced}
+use Rattle.rules.specs.Stamps.{stamp, fanStamp}
 use Rattle.drive.specs.declared.Drive.{Drive}
 use Rattle.drive.specs.declared.Setting.{Setting}
 use Rattle.input.specs.Inputs.{eighthsHeld, inputOf}
@@ -26,6 +27,7 @@ use Rattle.fan.specs.declared.Fan.{Fan}
 use Rattle.chip.specs.declared.Port.{Port}
 use Rattle.chip.specs.declared.Chip.{Chip}
 use Rattle.device.specs.declared.Device.{Device}
+use Rattle.device.specs.declared.Stamps.{Stamps}
 use Rattle.keeper.specs.declared.Keeper.{Keeper}
 use Rattle.keeper.specs.declared.Keeper.the-variants.{Off, On}
 
@@ -104,8 +106,12 @@ fanBy f d = record { drive = driveBy (spin f d); run = min 5 (failures f d); ala
 unfoldable pub chipBy : Taken → Chip
 chipBy d = record { port = portBy d; registers = registersBy d; channels = channelsBy d; fan1 = fanBy One d; fan2 = fanBy Two d }
 
+-- the stamps, which the rules count in the list
+unfoldable pub stampsBy : Taken → Stamps
+stampsBy d = record { now = stamp d; fan1 = fanStamp One d; fan2 = fanStamp Two d }
+
 unfoldable pub deviceBy : Taken → Device
-deviceBy d = record { chip = chipBy d; silenced = silenced d }
+deviceBy d = record { chip = chipBy d; silenced = silenced d; stamps = stampsBy d }
 
 unfoldable pub stateBy : Taken → Keeper
 stateBy d = cond (powered d) (On (deviceBy d)) Off

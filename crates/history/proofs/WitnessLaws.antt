@@ -29,6 +29,7 @@ use Rattle.history.proofs.AlertWitnessLaws.{alert-witness}
 use Rattle.history.proofs.ReasonWitnessLaws.{reason-witness}
 use Rattle.history.proofs.DiodeWitnessLaws.{diode-witness}
 use Rattle.history.proofs.PanelWitnessLaws.{panel-witness}
+use Rattle.history.proofs.StampWitnessLaws.{stamp-witness}
 
 -- a stretch by one test that computes
 aims : FanId → (a b : ℕ) → History → Bool
@@ -111,4 +112,5 @@ witness =
       reasons = reason-witness;
       diodes = diode-witness;
       panels = panel-witness;
+      stamps = stamp-witness;
     }

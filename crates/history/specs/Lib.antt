@@ -10,6 +10,7 @@ pub mod AlertWitness
 pub mod ReasonWitness
 pub mod DiodeWitness
 pub mod PanelWitness
+pub mod StampWitness
 pub mod Diodes
 pub mod Witness
 pub mod Proved

@@ -19,7 +19,8 @@ use Rattle.history.specs.Witness.{Witness}
 pub record Proved (h : History) : Type 0 where
   -- demand 1: every event gets the lowest reply that applies, and a refusal changes nothing; of every keeper, whose own address is a byte
   pub demand1 : (k : Keeper) (e : Event) → standingOf k .address < 256 → Demand1 k e
-  -- demand 2: every answer, output and register image is that of the rules over the list; T-03, T-06: so are the reason for a fan's duty and the panel
+  -- demand 2: every answer, output and register image is that of the rules over the list; T-03, T-06,
+  -- T-07: so are the reason for a fan's duty, the panel, the stamp and the ages
   pub agreement : Agreement h
   -- demand 2: readings and register bytes turn into each other without loss
   pub readback : Readback h
@@ -31,11 +32,11 @@ pub record Proved (h : History) : Type 0 where
   pub alerts : Alerts h
   -- T-05: a repeated report on a diode, and a sample of a channel in error, leave the keeper
   pub diodes : Diodes h
-  -- the rules say what document 01, and T-01, T-02, T-03, T-05 and T-06 of document 02, say, sentence by sentence
+  -- the rules say what document 01, and T-01, T-02, T-03, T-05, T-06 and T-07 of document 02, say, sentence by sentence
   pub page : Page h
   -- the engine's counts are those taken from the list
   pub counts : Counts h
   -- every register value is a byte, and no duty is above 240 slots
   pub bounds : Bounds h
-  -- the premises of demand 3, of T-13 and of the sentences of T-01, T-02, T-03, T-05 and T-06 can be met
+  -- the premises of demand 3, of T-13 and of the sentences of T-01, T-02, T-03, T-05, T-06 and T-07 can be met
   pub witness : Witness

@@ -35,7 +35,7 @@ use Rattle.keeper.specs.declared.Keeper.{Keeper}
 use Rattle.keeper.specs.declared.Keeper.the-variants.{Off, On}
 use Rattle.keeper.specs.declared.Outcome.{Outcome}
 use Rattle.keeper.specs.Keeping.{blank, blankDevice, noChannelRegisters, noFanRegisters, noChannel, isOn, deviceIn, standingWith, dataFor}
-use Rattle.keeper.specs.Keeping.{acceptedBy, decided, outcomeOf, shownBy, imageFrom, imageAnswer, imageBuffer}
+use Rattle.keeper.specs.Keeping.{acceptedBy, decided, outcomeOf, shownBy, stampBy, imageFrom, imageAnswer, imageBuffer}
 
 -- ---- a chip that never had power
 
@@ -60,7 +60,8 @@ pub blank-is :
     blank
 blank-is p q r s t u = rw (p, q, r, s, t, u)
 
-pub blank-device : {c : Chip} → c ≡ blank → _≡_ {A = Device} (record { chip = c; silenced = false }) blankDevice
+pub blank-device : {c : Chip} → c ≡ blank
+    → _≡_ {A = Device} (record { chip = c; silenced = false; stamps = record { now = 0; fan1 = 0; fan2 = 0 } }) blankDevice
 blank-device p = rw p
 
 -- ---- what is shown
@@ -72,6 +73,14 @@ shown-off p = rw p
 pub shown-on : {k : Keeper} {d : Device} {s : Shown} → k ≡ On d → s ≡ shownOf (d .chip) (d .silenced) → s ≡ shownBy k
 unfolding shownBy
 shown-on p e = rw p e
+
+pub stamp-off : {k : Keeper} → k ≡ Off → 0 ≡ stampBy k
+unfolding stampBy
+stamp-off p = rw p
+
+pub stamp-on : {k : Keeper} {d : Device} → k ≡ On d → d .stamps .now ≡ stampBy k
+unfolding stampBy
+stamp-on p = rw p
 
 -- ---- one event
 

@@ -63,7 +63,7 @@ blank =
     }
 
 abbrev pub blankDevice : Device
-blankDevice = record { chip = blank; silenced = false }
+blankDevice = record { chip = blank; silenced = false; stamps = record { now = 0; fan1 = 0; fan2 = 0 } }
 
 -- a keeper that never had power has a device too: the one before the first event
 abbrev pub isOn : Keeper → Bool
@@ -95,6 +95,11 @@ standingOf k = standingWith (isOn k) (chipIn k)
 unfoldable pub shownBy : Keeper → Shown
 shownBy Off = record { int = 0; therm = 0; fault = 0; duty1 = 0; duty2 = 0 }
 shownBy (On d) = shownOf (d .chip) (d .silenced)
+
+-- T-07: the stamp, 0 before the first power
+unfoldable pub stampBy : Keeper → ℕ
+stampBy Off = 0
+stampBy (On d) = d .stamps .now
 
 -- only a read returns data: that of the register at the pointer
 abbrev pub dataFor : Chip → Input → ℕ

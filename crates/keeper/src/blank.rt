@@ -4,6 +4,7 @@ use channel::Channels;
 use chip::Chip;
 use chip::Port;
 use device::Device;
+use device::Stamps;
 use drive::Drive;
 use fan::Fan;
 use stored::ChannelRegisters;
@@ -106,8 +107,14 @@ pub fn blank_device() -> Device
     ensures { λ d. ⌜ d ≡ blankDevice ⌝ }
 {
     let chip = blank_chip();
+    let stamps = Stamps {
+        now: 0,
+        fan1: 0,
+        fan2: 0,
+    };
     Device {
         chip,
         silenced: false,
+        stamps,
     }
 }

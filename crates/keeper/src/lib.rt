@@ -15,7 +15,7 @@ ghost use mathlib.Core.Path.{_≡_};
 ghost use Prim.Native.Nat.{_≤_};
 ghost use lib.ListN.{length};
 ghost use lib.Seq.{sets};
-ghost use Rattle.keeper.specs.Keeping.{isOn, deviceIn, standingWith, dataFor, acceptedBy, decided, outcomeOf, shownBy};
+ghost use Rattle.keeper.specs.Keeping.{isOn, deviceIn, standingWith, dataFor, acceptedBy, decided, outcomeOf, shownBy, stampBy};
 ghost use Rattle.keeper.specs.Keeping.{imageFrom, imageAnswer, imageBuffer};
 
 pub enum Keeper {
@@ -54,6 +54,16 @@ pub fn shown(k: Keeper) -> Shown
             duty2: 0,
         },
         Keeper::On(d) => output::shown(d.chip, d.silenced),
+    }
+}
+
+// The accepted clock events since power, modulo 65,536 (T-07 of document 02); 0 before the first power.
+pub fn stamp(k: Keeper) -> u16
+    ensures { λ r. ⌜ r ≡ stampBy k ⌝ }
+{
+    match k {
+        Keeper::Off => 0,
+        Keeper::On(d) => d.stamps.now,
     }
 }
 

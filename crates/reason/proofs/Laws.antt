@@ -13,7 +13,10 @@ use Rattle.part.specs.declared.ChannelId.{ChannelId}
 use Rattle.part.specs.declared.ChannelId.the-variants.{Local, Remote1}
 use Rattle.part.specs.declared.FanId.{FanId}
 use Rattle.part.specs.declared.FanId.the-variants.{One, Two}
+use Rattle.event.specs.declared.Refusal.{Refusal}
 use Rattle.event.specs.declared.Refusal.the-variants.{NoPower, NoSuchPart}
+use Rattle.event.specs.declared.Aged.the-variants as aged
+use Rattle.event.specs.declared.Explanation.{Explanation}
 use Rattle.event.specs.declared.Ramp.{Ramp}
 use Rattle.event.specs.declared.Reason.{Reason}
 use Rattle.event.specs.declared.Reason.the-variants as reason
@@ -27,10 +30,12 @@ use Rattle.stored.specs.declared.Registers.{Registers}
 use Rattle.channel.specs.declared.Channels.{Channels}
 use Rattle.fan.specs.Fans.{settingOf}
 use Rattle.chip.specs.declared.Chip.{Chip}
+use Rattle.device.specs.Stamping.{ageOf}
 use Rattle.device.specs.declared.Device.{Device}
 use Rattle.keeper.specs.declared.Keeper.{Keeper}
 use Rattle.keeper.specs.declared.Keeper.the-variants.{Off, On}
 use Rattle.reason.specs.Reasoning.{latchedIn, askedIn, askingIn, reasonUnder, driveOf, reasonOf, whyIn, whyOf}
+use Rattle.reason.specs.Aging.{explainedBy, unexplainedBy, ageIn, explanationIn, ageWith, explanationOf, ageOr, agedOf}
 
 -- ---- its numbers
 
@@ -103,24 +108,42 @@ other : (v : ℤ) (n : ℕ) → (ofZ w32 v ≡ n → ⊥) → isNumber v n ≡ f
 other (pos m) n h = ne-eqb m n h
 other (negsuc m) n h = refl
 
-module _ (v : ℤ) (fits : SFits w32 v) (k : Chip) {r : Reason} where
-  pub fan-one : ofZ w32 v ≡ 1 → r ≡ reasonOf One k → Because r ≡ whyIn v k
-  unfolding whyIn
-  fan-one t e = rw (same v fits 1 refl t, e)
+module _ (v : ℤ) (fits : SFits w32 v) (d : Device) {x : Explanation} where
+  pub fan-one : ofZ w32 v ≡ 1 → x ≡ explainedBy One d → x ≡ explanationIn v d
+  unfolding explanationIn whyIn ageIn
+  fan-one t e = rw (same v fits 1 refl t) e
 
   module _ (not-one : ofZ w32 v ≡ 1 → ⊥) where
-    pub fan-two : ofZ w32 v ≡ 2 → r ≡ reasonOf Two k → Because r ≡ whyIn v k
-    unfolding whyIn
-    fan-two t e = rw (other v 1 not-one, same v fits 2 refl t, e)
+    pub fan-two : ofZ w32 v ≡ 2 → x ≡ explainedBy Two d → x ≡ explanationIn v d
+    unfolding explanationIn whyIn ageIn
+    fan-two t e = rw (other v 1 not-one, same v fits 2 refl t) e
 
-pub no-fan : (v : ℤ) (k : Chip) → (ofZ w32 v ≡ 1 → ⊥) → (ofZ w32 v ≡ 2 → ⊥) → Refused NoSuchPart ≡ whyIn v k
-unfolding whyIn
-no-fan v k not-one not-two = rw (other v 1 not-one, other v 2 not-two)
+pub no-fan : (v : ℤ) (d : Device) {x : Explanation} → (ofZ w32 v ≡ 1 → ⊥) → (ofZ w32 v ≡ 2 → ⊥) → x ≡ unexplainedBy NoSuchPart → x ≡ explanationIn v d
+unfolding explanationIn whyIn ageIn
+no-fan v d not-one not-two e = rw (other v 1 not-one, other v 2 not-two) e
 
-pub why-off : (fan : ℤ) {k : Keeper} → k ≡ Off → Refused NoPower ≡ whyOf k fan
-unfolding whyOf
-why-off fan p = rw p
+module _ (fan : ℤ) {k : Keeper} {x : Explanation} where
+  pub why-off : k ≡ Off → x ≡ unexplainedBy NoPower → x ≡ explanationOf k fan
+  unfolding explanationOf whyOf ageWith
+  why-off p e = rw p e
 
-pub why-on : (fan : ℤ) {k : Keeper} {d : Device} {r : Why} → SFits w32 fan → k ≡ On d → r ≡ whyIn (toZ w32 (ofZ w32 fan)) (d .chip) → r ≡ whyOf k fan
-unfolding whyOf
-why-on fan fits p e = e ∙ rw (toZ-ofZ w32 fan fits, p)
+  pub why-on : {d : Device} → SFits w32 fan → k ≡ On d → x ≡ explanationIn (toZ w32 (ofZ w32 fan)) d → x ≡ explanationOf k fan
+  unfolding explanationOf whyOf ageWith explanationIn
+  why-on fits p e = e ∙ rw (toZ-ofZ w32 fan fits, p)
+
+-- ---- the age
+
+pub explained-is : (f : FanId) (d : Device) {r : Reason} {n : ℕ} → r ≡ reasonOf f (d .chip) → n ≡ ageOf f (d .stamps)
+    → _≡_ {A = Explanation} (record { why = Because r; age = n }) (explainedBy f d)
+explained-is f d p q = rw (p, q)
+
+module _ (k : Keeper) (fan : ℤ) (fits : SFits w32 fan) {x : Explanation} (is : x ≡ explanationOf k (toZ w32 (ofZ w32 fan))) where
+  same-aged : agedOf k fan ≡ ageOr (x .why) (x .age)
+  unfolding agedOf explanationOf
+  same-aged = rw (is, toZ-ofZ w32 fan fits)
+
+  pub age-told : {r : Reason} → x .why ≡ Because r → aged.Clocks (x .age) ≡ agedOf k fan
+  age-told p = sym (same-aged ∙ ap (λ (w : Why). ageOr w (x .age)) p)
+
+  pub age-refused : {r : Refusal} → x .why ≡ Refused r → aged.Refused r ≡ agedOf k fan
+  age-refused p = sym (same-aged ∙ ap (λ (w : Why). ageOr w (x .age)) p)

@@ -1,9 +1,12 @@
-// Why a fan of a keeper has its duty (T-03 of document 02): the first of eight reasons that holds, with its numbers.
+// Why a fan of a keeper has its duty (T-03 of document 02), the first of eight reasons that holds with its numbers, and since when it turns (T-07).
 // It stands beside the keeper and changes nothing.
 use channel::Channels;
 use chip::Chip;
+use device::Device;
 use drive::Drive;
 use drive::Setting;
+use event::Aged;
+use event::Explanation;
 use event::Ramp;
 use event::Reason;
 use event::Refusal;
@@ -16,7 +19,8 @@ ghost use mathlib.Core.Path.{_≡_};
 ghost use mathlib.Core.Bool.{not, _&&_};
 ghost use lib.Dec.{eqb};
 ghost use Rattle.rules.specs.Reasons.{lowestWith, rampTo};
-ghost use Rattle.reason.specs.Reasoning.{latchedIn, askingIn, reasonUnder, driveOf, reasonOf, whyIn, whyOf};
+ghost use Rattle.reason.specs.Reasoning.{latchedIn, askingIn, reasonUnder, driveOf, reasonOf};
+ghost use Rattle.reason.specs.Aging.{explainedBy, unexplainedBy, explanationIn, explanationOf, agedOf};
 
 // The first of the channels that is named; the last, where neither of the others is.
 fn lowest_with(local: bool, remote1: bool) -> ChannelId
@@ -118,25 +122,58 @@ fn reason_of(f: FanId, k: Chip) -> Reason
     reason_under(f, s, drive_of(f, k), k)
 }
 
-// Of the fan of a number, where the chip has power.
-fn why_in(fan: i32, k: Chip) -> Why
-    ensures { λ r. ⌜ r ≡ whyIn fan k ⌝ }
+// Of a fan, where there is power: the reason, and the age beside it.
+fn explained(f: FanId, d: Device) -> Explanation
+    ensures { λ r. ⌜ r ≡ explainedBy f d ⌝ }
 {
-    if fan == 1 {
-        return Why::Because(reason_of(FanId::One, k));
+    let reason = reason_of(f, d.chip);
+    Explanation {
+        why: Why::Because(reason),
+        age: device::age(f, d.stamps),
     }
-    if fan == 2 {
-        return Why::Because(reason_of(FanId::Two, k));
-    }
-    Why::Refused(Refusal::NoSuchPart)
 }
 
-// Why the fan of a number has its duty: 1 before the first power, 3 for a number that is neither fan's.
-pub fn why(k: Keeper, fan: i32) -> Why
-    ensures { λ r. ⌜ r ≡ whyOf k fan ⌝ }
+// Where nothing is told.
+fn unexplained(r: Refusal) -> Explanation
+    ensures { λ x. ⌜ x ≡ unexplainedBy r ⌝ }
+{
+    Explanation {
+        why: Why::Refused(r),
+        age: 0,
+    }
+}
+
+// Of the fan of a number, where there is power.
+fn explanation_in(fan: i32, d: Device) -> Explanation
+    ensures { λ r. ⌜ r ≡ explanationIn fan d ⌝ }
+{
+    if fan == 1 {
+        return explained(FanId::One, d);
+    }
+    if fan == 2 {
+        return explained(FanId::Two, d);
+    }
+    unexplained(Refusal::NoSuchPart)
+}
+
+// Why the fan of a number has its duty, and its age: 1 before the first power, 3 for a number that is neither fan's.
+pub fn why(k: Keeper, fan: i32) -> Explanation
+    ensures { λ r. ⌜ r ≡ explanationOf k fan ⌝ }
 {
     match k {
-        Keeper::Off => Why::Refused(Refusal::NoPower),
-        Keeper::On(d) => why_in(fan, d.chip),
+        Keeper::Off => unexplained(Refusal::NoPower),
+        Keeper::On(d) => explanation_in(fan, d),
+    }
+}
+
+// Its age alone, the clock events since it started, modulo 65,536; 1 and 3 as before.
+pub fn age(k: Keeper, fan: i32) -> Aged
+    ensures { λ r. ⌜ r ≡ agedOf k fan ⌝ }
+{
+    let told = why(k, fan);
+    let answer = told.why;
+    match answer {
+        Why::Because(_) => Aged::Clocks(told.age),
+        Why::Refused(r) => Aged::Refused(r),
     }
 }

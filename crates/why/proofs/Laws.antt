@@ -14,7 +14,7 @@ use Rattle.buffer.proofs.CountLaws.{put-counted}
 use Rattle.explainer.specs.Explained.{explained}
 use Rattle.explainer.proofs.LengthLaws.{lines-short}
 
-module _ (text d : List ℕ) (room : 52 ≤ length d) where
+module _ (text d : List ℕ) (room : 74 ≤ length d) where
   fits : 0 + length (explained text) ≤ length d
   fits = omega (arith, lines-short text)
 

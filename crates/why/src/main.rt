@@ -1,4 +1,4 @@
-// Prints why both fans have their duties after the last event of the trace on standard input.
+// Prints why both fans have their duties after the last event of the trace on standard input, and since when they turn.
 // The buffer holds the longest lines, so that the program never falls silent.
 // A failed read or write is told on standard error; after a failed read there are no lines.
 ghost use mathlib.Core.Path.{_≡_};
@@ -15,16 +15,16 @@ fn input_buffer() -> [u8; 65537]
     [0; 65537]
 }
 
-// Two lines of at most 26 bytes.
-fn line_buffer() -> [u8; 52]
-    ensures { λ r. ⌜ 52 ≡ length r ⌝ }
+// Two lines of at most 26 bytes, two of at most 11.
+fn line_buffer() -> [u8; 74]
+    ensures { λ r. ⌜ 74 ≡ length r ⌝ }
 {
-    [0; 52]
+    [0; 74]
 }
 
 // What is to be printed, in the buffer, and its length: it always fits.
 fn printed(text: &[u8], lines: &mut [u8]) -> usize
-    requires { ⌜ 52 ≤ length (now lines) ⌝ }
+    requires { ⌜ 74 ≤ length (now lines) ⌝ }
     ensures { λ r. ⌜ r ≡ length (explained (now (text .entry))) ⌝ }
     ensures { λ r. ⌜ Counts r (now (lines .exit)) ⌝ }
     ensures { λ _. ⌜ now (lines .exit) ≡ sets (now (lines .entry)) 0 (explained (now (text .entry))) ⌝ }

@@ -4,23 +4,23 @@ use borrow.Author.Needs.{needs}
 use Rattle.explainer.proofs.put_told.Statement.{statement}
 use Rattle.explainer.proofs.put_told.Tie as tie
 
-enum-known-one : tie.Need-enum-known-one
-enum-known-one c = search needs
+enum-known-first : tie.Need-enum-known-first
+enum-known-first c = search needs
 
-enum-known-two : tie.Need-enum-known-two
-enum-known-two c = search needs
+enum-known-second : tie.Need-enum-known-second
+enum-known-second c = search needs
 
 put-lines-requires : tie.Need-put-lines-requires
 put-lines-requires c κs = search needs
 
-enum-known-two-2 : tie.Need-enum-known-two-2
-enum-known-two-2 c = search needs
+enum-known-second-2 : tie.Need-enum-known-second-2
+enum-known-second-2 c = search needs
 
 put-refusal-requires : tie.Need-put-refusal-requires
 put-refusal-requires c κs = search needs
 
-enum-known-one-2 : tie.Need-enum-known-one-2
-enum-known-one-2 c = search needs
+enum-known-first-2 : tie.Need-enum-known-first-2
+enum-known-first-2 c = search needs
 
 put-refusal-requires-2 : tie.Need-put-refusal-requires-2
 put-refusal-requires-2 c κs = search needs
@@ -47,12 +47,12 @@ pub put-told-spec : {M : Type 1} → statement M
 put-told-spec =
     tie.close
     (tie.spec
-    enum-known-one
-    enum-known-two
+    enum-known-first
+    enum-known-second
     put-lines-requires
-    enum-known-two-2
+    enum-known-second-2
     put-refusal-requires
-    enum-known-one-2
+    enum-known-first-2
     put-refusal-requires-2
     same-length
     returns

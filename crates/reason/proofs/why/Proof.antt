@@ -6,11 +6,14 @@ use Rattle.reason.proofs.why.Tie as tie
 enum-told : tie.Need-enum-told
 enum-told c = search needs
 
+unexplained-requires : tie.Need-unexplained-requires
+unexplained-requires c κs = search needs
+
 enum-known-k : tie.Need-enum-known-k
 enum-known-k c = search needs
 
-why-in-requires : tie.Need-why-in-requires
-why-in-requires c κs = search needs
+explanation-in-requires : tie.Need-explanation-in-requires
+explanation-in-requires c κs = search needs
 
 returns : tie.Need-returns
 returns c = search why-off
@@ -19,4 +22,12 @@ returns-2 : tie.Need-returns-2
 returns-2 c = search why-on
 
 pub why-spec : {M : Type 1} → statement M
-why-spec = tie.close (tie.spec enum-told enum-known-k why-in-requires returns returns-2)
+why-spec =
+    tie.close
+    (tie.spec
+    enum-told
+    unexplained-requires
+    enum-known-k
+    explanation-in-requires
+    returns
+    returns-2)

@@ -16,6 +16,18 @@ slice-aggregate-put-line-2 c = search needs
 put-line-requires-2 : tie.Need-put-line-requires-2
 put-line-requires-2 c κs = search needs
 
+slice-aggregate-put-age : tie.Need-slice-aggregate-put-age
+slice-aggregate-put-age c = search needs
+
+put-age-requires : tie.Need-put-age-requires
+put-age-requires c κs = search needs
+
+slice-aggregate-put-age-2 : tie.Need-slice-aggregate-put-age-2
+slice-aggregate-put-age-2 c = search needs
+
+put-age-requires-2 : tie.Need-put-age-requires-2
+put-age-requires-2 c κs = search needs
+
 sub-put-whole : tie.Need-sub-put-whole
 sub-put-whole c = search needs
 
@@ -42,6 +54,10 @@ put-lines-spec =
     put-line-requires
     slice-aggregate-put-line-2
     put-line-requires-2
+    slice-aggregate-put-age
+    put-age-requires
+    slice-aggregate-put-age-2
+    put-age-requires-2
     sub-put-whole
     part-put-whole-start
     part-put-whole-end
