@@ -11,8 +11,8 @@
 extern "C" {
 #endif
 
-/* What snezhulka_replay, snezhulka_steps, snezhulka_reasons and snezhulka_wrong_line give where input or buffer has the wrong
-   size (reply 11); the buffer is then as it was. */
+/* What snezhulka_replay, snezhulka_steps, snezhulka_reasons, snezhulka_ages and snezhulka_wrong_line give where input or
+   buffer has the wrong size (reply 11); the buffer is then as it was. */
 #define SNEZHULKA_WRONG_SIZE SIZE_MAX
 
 /* Replays a trace text of at most 65,536 bytes into `report` and gives the length of the report.
@@ -35,6 +35,15 @@ size_t snezhulka_steps(const int32_t *numbers, size_t count, uint8_t *outcomes, 
    Before the first accepted power they are 0, the reply number 1, 0, 0. Gives how many bytes those are; the events end before
    the first that has another kind. `reasons` must have room for the reasons after all events. */
 size_t snezhulka_reasons(const int32_t *numbers, size_t count, uint8_t *reasons, size_t reasons_len);
+
+/* Since when both fans run, after each of the same events, in clock events, a tenth of a second each; refused ones do not
+   count. Puts three numbers for each event into `ages`: the stamp, which counts them since power, and the ages of fan 1 and
+   fan 2. An age counts them since the duty of its fan last went from 0 to more, or since a later power or software reset; it
+   goes on at duty 0. A software reset keeps the stamp. All three are modulo 65,536, so that an age is the true count while
+   fewer than 65,536 have passed, 1 h 49 min 13.6 s. Before the first accepted power they are 0. Gives how many numbers those
+   are, three an event; the events end before the first that has another kind. `ages_len` counts numbers, not bytes; `ages`
+   must have room for those after all events. */
+size_t snezhulka_ages(const int32_t *numbers, size_t count, uint16_t *ages, size_t ages_len);
 
 /* Steps a keeper that never had power through the same events and puts its register image into the first 64 bytes of
    `image`: at each place what a read of that address would return, 0 where there is no register. Gives the reply number:

@@ -1,9 +1,9 @@
 -- The bytes of a reason, and of both fans after an event. Assumes nothing.
-use Prim.Native.Nat.{ℕ}
+use Prim.Native.Nat.{ℕ, _+_, _*_}
 use mathlib.Core.Path.{_≡_, refl, sym, ap, _∙_}
 use mathlib.Core.List.{List, [], _∷_}
 use native.Mathlib.Omega.{arith}
-use lib.IntN.{pos}
+use lib.IntN.{ℤ, pos}
 use lib.ListN.{length, getD}
 use lib.Seq.{sets}
 use mir.Syntax.{w8}
@@ -13,6 +13,7 @@ use Rattle.part.specs.declared.ChannelId.{ChannelId}
 use Rattle.part.specs.declared.ChannelId.the-variants.{Local, Remote1, Remote2}
 use Rattle.event.specs.Answers.{refusalNumber}
 use Rattle.event.specs.declared.Event.{Event}
+use Rattle.event.specs.declared.Explanation.{Explanation}
 use Rattle.event.specs.declared.Ramp.{Ramp}
 use Rattle.event.specs.declared.Reason.{Reason}
 use Rattle.event.specs.declared.Reason.the-variants as reason
@@ -25,9 +26,13 @@ use Rattle.rules.specs.Reasons.{whyFor}
 use Rattle.keeper.specs.Keeping.{outcomeOf}
 use Rattle.keeper.specs.declared.Keeper.{Keeper}
 use Rattle.keeper.specs.declared.Outcome.{Outcome}
-use Rattle.reason.specs.Reasoning.{whyOf}
+use Rattle.reason.specs.Aging.{explanationOf}
 use Rattle.history.specs.Agreement.{run}
 use Rattle.history.proofs.Agree.{agreement}
+use Rattle.stepper.specs.Steps.{eventNumbered, firstEvents, bytesOf}
+use Rattle.stepper.specs.declared.Parsed.{Parsed}
+use Rattle.stepper.specs.declared.Parsed.the-variants as parsed
+use Rattle.stepper.proofs.Laws.{next-held, next-long}
 use Rattle.reasoner.specs.Reasons.{whyBytes, bothBytes, reasonsAfter}
 
 -- ---- four bytes
@@ -88,11 +93,27 @@ both-is one two d at ea eb e = e ∙ rw (ea, eb) (ap (sets d at) (both-bytes one
 -- ---- after an event
 
 module _ (x : Event) (h : History) where
-  pub reasons-is : {k : Keeper} {o : Outcome} {one two : Why} → k ≡ run h → o ≡ outcomeOf k x → one ≡ whyOf (o .keeper) (pos 1)
-      → two ≡ whyOf (o .keeper) (pos 2) → bothBytes one two ≡ reasonsAfter x h
-  reasons-is {o = o} before ho e1 e2 =
-      let after : o .keeper ≡ run (x ∷ h) = (unfold run in rw (ho, before)) in
-      rw (e1, e2, after, agreement (x ∷ h) .why (pos 1), agreement (x ∷ h) .why (pos 2))
+  -- the keeper that it leaves is that of the longer list
+  pub after-is : {k : Keeper} {o : Outcome} → k ≡ run h → o ≡ outcomeOf k x → o .keeper ≡ run (x ∷ h)
+  unfolding run
+  after-is before ho = rw (ho, before)
 
-  pub reasons-long : length (reasonsAfter x h) ≡ 8
+  reasons-is : {k : Keeper} {o : Outcome} {one two : Explanation} → k ≡ run h → o ≡ outcomeOf k x → one ≡ explanationOf (o .keeper) (pos 1)
+      → two ≡ explanationOf (o .keeper) (pos 2) → bothBytes (one .why) (two .why) ≡ reasonsAfter x h
+  reasons-is before ho e1 e2 =
+      rw (e1, e2, after-is before ho, agreement (x ∷ h) .explanation (pos 1), agreement (x ∷ h) .explanation (pos 2))
+
+  reasons-long : length (reasonsAfter x h) ≡ 8
   reasons-long = ap length (sym (both-bytes (whyFor (pos 1) (taken (x ∷ h))) (whyFor (pos 2) (taken (x ∷ h)))))
+
+-- and in the buffer, behind those of the events before it
+module _ (s : List ℤ) (i : ℕ) {t : Parsed} {x : Event} (is : t ≡ eventNumbered s i) (a : t ≡ parsed.Event x)
+    (long : length (bytesOf reasonsAfter i s) ≡ 8 * i) where
+  pub next-size : length (bytesOf reasonsAfter (i + 1) s) ≡ 8 * (i + 1)
+  next-size = next-long s i is a reasonsAfter 8 long reasons-long
+
+  pub next-reasons : {k : Keeper} {o : Outcome} {one two : Explanation} → k ≡ run (firstEvents i s) → o ≡ outcomeOf k x
+      → one ≡ explanationOf (o .keeper) (pos 1) → two ≡ explanationOf (o .keeper) (pos 2) → (d0 d : List ℕ) {d′ : List ℕ}
+      → d ≡ sets d0 0 (bytesOf reasonsAfter i s) → d′ ≡ sets d (8 * i) (bothBytes (one .why) (two .why))
+      → d′ ≡ sets d0 0 (bytesOf reasonsAfter (i + 1) s)
+  next-reasons before ho e1 e2 d0 d held e = next-held s i is a reasonsAfter 8 long d0 d held (reasons-is x (firstEvents i s) before ho e1 e2) e

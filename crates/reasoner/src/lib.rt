@@ -1,5 +1,8 @@
-// Why both fans have their duties after each event of a list, each of them four numbers: eight bytes an event.
+// Why both fans have their duties after each event of a list, each of them four numbers: eight bytes an event; and since when they turn.
 // It ends before the first four numbers that are no event, as the stepper does.
+mod aging;
+
+pub use aging::ages;
 use buffer::Put;
 use event::Reason;
 use event::Refusal;
@@ -71,7 +74,11 @@ fn reason_all(numbers: &[i32], reasons: &mut [u8], end: usize) -> usize
             Parsed::Event(e) => {
                 let o = keeper::step(k, e);
                 k = o.keeper;
-                put_both(reason::why(k, 1), reason::why(k, 2), reasons, 8 * i);
+                let one = reason::why(k, 1);
+                let two = reason::why(k, 2);
+                let first = one.why;
+                let second = two.why;
+                put_both(first, second, reasons, 8 * i);
                 i += 1;
             }
             Parsed::Nothing => {

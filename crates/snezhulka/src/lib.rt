@@ -1,8 +1,9 @@
-// The replay, the engine, the reasons, the register image, the panel, the rewriter and the alert search for programs in C and Rust: slices in, a number out.
+// The replay, the engine, reasons, ages, register image, panel, the rewriter and the alert search for programs in C and Rust: slices in, a number out.
 // A slice is passed as pointer and number of elements; no pointer may be null, and two of one call may not overlap:
 // size_t snezhulka_replay(const uint8_t *text, size_t text_len, uint8_t *report, size_t report_len);
 // size_t snezhulka_steps(const int32_t *numbers, size_t count, uint8_t *outcomes, size_t outcomes_len);
 // size_t snezhulka_reasons(const int32_t *numbers, size_t count, uint8_t *reasons, size_t reasons_len);
+// size_t snezhulka_ages(const int32_t *numbers, size_t count, uint16_t *ages, size_t ages_len);
 // size_t snezhulka_image(const int32_t *numbers, size_t count, uint8_t *image, size_t image_len);
 // size_t snezhulka_panel(const int32_t *numbers, size_t count, double *figures, size_t figures_len, uint8_t *cases, size_t cases_len);
 // size_t snezhulka_rewrite(const uint8_t *text, size_t text_len, uint8_t *copy, size_t copy_len);
@@ -19,6 +20,7 @@ ghost use Rattle.buffer.specs.Put.{putOf, heldOf, endOf};
 ghost use Rattle.player.specs.Report.{replayAnswer, replayBuffer};
 ghost use Rattle.stepper.specs.Steps.{stepsAnswer, stepsBuffer};
 ghost use Rattle.reasoner.specs.Reasons.{reasonsAnswer, reasonsBuffer};
+ghost use Rattle.reasoner.specs.Ages.{agesAnswer, agesBuffer};
 ghost use Rattle.imager.specs.Image.{imageAfter, imageLeft};
 ghost use Rattle.imager.specs.Figures.{panelAfter, figuresLeft, casesLeft};
 ghost use Rattle.rewriter.specs.Rewritten.{copyEnd};
@@ -58,6 +60,18 @@ pub extern "C" fn snezhulka_reasons(numbers: &[i32], reasons: &mut [u8]) -> usiz
     ensures { λ _. ⌜ now (reasons .exit) ≡ reasonsBuffer (now (numbers .entry)) (now (reasons .entry)) ⌝ }
 {
     buffer::end_of(reasoner::reasons(numbers, reasons), REFUSED)
+}
+
+// The stamp, and since how many clock events both fans turn, after each of the same events, three numbers an event: the stamp, the
+// age of fan 1, the age of fan 2, each modulo 65,536; all 0 before the first accepted power. How many numbers, up to the first event
+// of another kind; or the largest number, where the numbers are no whole events or the buffer is too short for all, and the buffer
+// as it was.
+#[no_mangle]
+pub extern "C" fn snezhulka_ages(numbers: &[i32], ages: &mut [u16]) -> usize
+    ensures { λ r. ⌜ r ≡ endOf (agesAnswer (now (numbers .entry)) (now (ages .entry))) noLength ⌝ }
+    ensures { λ _. ⌜ now (ages .exit) ≡ agesBuffer (now (numbers .entry)) (now (ages .entry)) ⌝ }
+{
+    buffer::end_of(reasoner::ages(numbers, ages), REFUSED)
 }
 
 // The register image after the same events, in the first 64 bytes of the buffer: its reply number, 0, 1 or 11; 10 where

@@ -1,12 +1,14 @@
 //! Safe calls of the proved fan keeper: a trace text in and a report out, or events in and outcomes, a register image,
-//! a panel or the reasons of the fans out; a trace text read and written again; its first wrong line; and who pulled an
-//! alert line that several keepers share.
+//! a panel, the reasons or the ages of the fans out; a trace text read and written again; its first wrong line; and who
+//! pulled an alert line that several keepers share.
 
 use std::fmt;
 
+mod ages;
 mod panel;
 mod reasons;
 
+pub use ages::{ages, Ages};
 pub use panel::{panel, FanSpeed, Panel};
 pub use reasons::{reasons, Reason, Why};
 
@@ -40,6 +42,14 @@ mod library {
             count: usize,
             reasons: *mut u8,
             reasons_len: usize,
+        ) -> usize;
+
+        // How many numbers of stamps and ages there are, or usize::MAX as above. Both lengths count numbers.
+        pub fn snezhulka_ages(
+            numbers: *const i32,
+            count: usize,
+            ages: *mut u16,
+            ages_len: usize,
         ) -> usize;
 
         // The reply number of the register image.

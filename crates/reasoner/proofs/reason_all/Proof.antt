@@ -6,10 +6,10 @@ use lib.ListN.{length}
 use lib.Seq.{sets}
 use Rattle.history.specs.Agreement.{run}
 use Rattle.stepper.specs.Steps.{eventCountFrom, firstEvents, bytesOf}
-use Rattle.stepper.proofs.Laws.{room-fits, same-size, next-count, next-keeper, next-long, next-held, none-count, end-count, held-is, start-keeper}
+use Rattle.stepper.proofs.Laws.{room-fits, same-size, next-count, next-keeper, none-count, end-count, held-is, start-keeper}
 use Rattle.stepper.proofs.Laws.{start-held, start-long, start-count}
 use Rattle.reasoner.specs.Reasons.{reasonsAfter}
-use Rattle.reasoner.proofs.Laws.{reasons-is, reasons-long}
+use Rattle.reasoner.proofs.Laws.{next-reasons, next-size}
 use Rattle.reasoner.proofs.reason_all.Statement.{statement}
 use Rattle.reasoner.proofs.reason_all.Tie as tie
 
@@ -59,7 +59,7 @@ loop-less : tie.Need-loop-less Inv-loop μ-loop
 loop-less c = omega arith
 
 loop-again : tie.Need-loop-again Inv-loop μ-loop
-loop-again c = (omega arith, search same-size, search next-keeper, search (next-held, reasons-is), search (next-long, reasons-long), search next-count)
+loop-again c = (omega arith, search same-size, search next-keeper, search next-reasons, search next-size, search next-count)
 
 enum-told : tie.Need-enum-told Inv-loop μ-loop
 enum-told c = search needs
