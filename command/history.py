@@ -8,6 +8,8 @@ from command.registers import (CHARACTERISTICS, CONFIG2, HIGH, LOW, OFFSETS, REG
 # what: refused, power, reset, status (part: register, value: byte), high, low (channel, limit), over (fan, count), failed (fan, count),
 # offset (channel, degrees: at a sample, other than 0), alert (value: whether it lets INT go), diode (channel, whether that is news)
 Mark = collections.namedtuple("Mark", "what part value", defaults=(None, None))
+# what set a fan's stamp: a start, where its duty left 0, or power or reset; whether it turned before that, and after; the clocks up to there
+Since = collections.namedtuple("Since", "what turned turns clocks")
 AFTER_POWER = {address: register.reset for address, register in REGISTERS.items()}
 RELEASE = 5  # degrees under its limit, where a THERM latch lets go
 LEAST, MOST = -1024, (1022, 1023, 1023)  # readings of the channels, in eighths; the local one stays even
@@ -16,7 +18,8 @@ LEAST, MOST = -1024, (1022, 1023, 1023)  # readings of the channels, in eighths;
 @dataclasses.dataclass(frozen=True)
 class Chip:
     """Readings are in eighths, None before the first sample; samples those they were made of, None where no offset stood at them;
-    errors are the channels whose diode is in error; asserted is INT; spins are the clock events that remain of the spin-ups."""
+    errors are the channels whose diode is in error; asserted is INT; spins are the clock events that remain of the spin-ups; clocks are
+    all that were accepted; since is what last set the stamp of each fan, None before power."""
 
     registers: dict = dataclasses.field(default_factory=lambda: AFTER_POWER)
     pointer: int = 0
@@ -29,6 +32,7 @@ class Chip:
     duties: tuple = (0, 0)
     spins: tuple = (0, 0)
     clocks: int = 0
+    since: tuple = (None, None)
     marks: tuple = ()
 
     def limit(self, limits, channel):
@@ -36,6 +40,10 @@ class Chip:
 
     def offset(self, channel):
         return offset_degrees(self.registers[OFFSETS[channel]])
+
+    def age(self, fan):
+        """The clock events since the fan's stamp was set; a trace has too few of them to wrap."""
+        return self.clocks - self.since[fan].clocks
 
 
 def put(values, place, value):
@@ -115,6 +123,13 @@ def spin_after(chip, event, fan, duty):
     return max(0, chip.spins[fan] - (event.kind == "clock"))
 
 
+def since_after(chip, moved, fan, duty):
+    """What last set the fan's stamp: a power or a reset, else a start. Before a power every fan counts as one that stands."""
+    turned = chip.duties[fan] > 0
+    what = next((mark.what for mark in moved.marks if mark.what in ("power", "reset")), "start" if duty and not turned else None)
+    return Since(what, turned and what != "power", duty > 0, moved.clocks) if what else chip.since[fan]
+
+
 def after(chip, event, shown):
     chip = dataclasses.replace(chip, marks=())
     if shown.answer:
@@ -123,7 +138,8 @@ def after(chip, event, shown):
     marks = (Mark("status", chip.pointer, shown.data),) if event.kind == "read" and chip.pointer in STATUS else moved.marks
     duties = (shown.duty1, shown.duty2)
     spins = tuple(spin_after(moved, event, fan, duty) for fan, duty in enumerate(duties))
-    return dataclasses.replace(moved, asserted=bool(shown.int), duties=duties, spins=spins, marks=marks)
+    since = tuple(since_after(chip, moved, fan, duty) for fan, duty in enumerate(duties))
+    return dataclasses.replace(moved, asserted=bool(shown.int), duties=duties, spins=spins, since=since, marks=marks)
 
 
 def follow(case):

@@ -16,7 +16,7 @@ COMMANDS = {
     "replay": "the program's report as it is; refused events in words on standard error",
     "table": "one row an event, in words, with the reasons for the duties; --csv for a spreadsheet",
     "chart": "a picture in SVG: temperatures and limits, duties and the reasons for them, lines, spin-ups, status reads",
-    "why": "why each fan runs as it does after the last event: the program's words, and a sentence to read out",
+    "why": "why each fan runs as it does after the last event, and since when: the program's words, and what to read out",
     "panel": "the wheelhouse panel after the last event: temperatures in degrees, fan speeds in revolutions a minute",
 }
 INTERRUPTED = 130

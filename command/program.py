@@ -1,4 +1,4 @@
-"""The proved programs, run: `replay` for the report of a trace, `why` and `panel` for the reasons and the panel after its last event."""
+"""The proved programs, run: `replay` for the report of a trace, `why` and `panel` for the reasons, with ages, and the panel after its last event."""
 import concurrent.futures
 import functools
 import subprocess

@@ -1,13 +1,14 @@
-"""The reasons for the duties, as the program `why` gives them after an event; nothing of them is worked out here."""
+"""The reasons for the duties and the ages of the fans, as the program `why` gives them after an event; nothing of them is worked out here."""
 import collections
 import itertools
 
 from command.case import NO_POWER, powered, refusal_of
+from command.history import follow
 from command.program import reasons_of
 from command.registers import CHANNELS
 from command.report import FULL
 from command.status import BUILD, Failure
-from command.trace import Event
+from command.trace import Event, value_of
 
 CHANNEL, CLOCKS, SLOTS = (tuple(map(str, numbers)) for numbers in (range(3), range(1, 81), range(1, FULL + 1)))
 FORMS = {  # the first word, and which words stand behind it
@@ -22,10 +23,11 @@ FORMS = {  # the first word, and which words stand behind it
 }
 STANDS, RUNS_FULL, OF_CHANNEL = ("disabled", "zero"), ("pin", "therm", "spin"), ("therm", "demand")
 FANS = (1, 2)
+AGES = range(2**16)  # clock events
 
 
-class Reason(collections.namedtuple("Reason", "what more")):
-    """The program's words: the first, and those behind it."""
+class Reason(collections.namedtuple("Reason", "what more age")):
+    """The program's words: the first, and those behind it; and the fan's age, in clock events."""
 
     def words(self):
         return " ".join((self.what, *self.more))
@@ -58,24 +60,26 @@ class Reason(collections.namedtuple("Reason", "what more")):
         return " ".join((self.first(chip), CHANNELS[self.channel()])) if self.what in OF_CHANNEL else self.words()
 
 
-def reason_of(fan, line):
-    """What a line says of a fan, or None where it is no such line."""
+def reason_of(fan, line, age_line):
+    """What two lines say of a fan, or None where they are no such lines."""
     name, _, words = line.partition("=")
     what, *more = words.split(" ")
-    forms = FORMS.get(what)
+    forms, age = FORMS.get(what), value_of(f"age{fan}", age_line)
     right = name == f"reason{fan}" and forms is not None and len(forms) == len(more) and all(map(tuple.__contains__, forms, more))
-    return Reason(what, tuple(more)) if right else None
+    return Reason(what, tuple(more), age) if right and age in AGES else None
 
 
-def told(printed, refusal, shown):
-    """The reasons of both fans in what was printed, or None where a refusal is due, which is then all of it."""
+def told(printed, refusal, shown, chip):
+    """The reasons of both fans in what was printed, or None where a refusal is due, which is then all of it. They are held to the duties
+    that are shown, and ages to what is known of the chip, since the words for them are from there."""
     if refusal:
         found, right = None, printed == b"answer=%d\n" % refusal
     else:
         *lines, unended = printed.decode("latin-1").split("\n")
-        found = [reason_of(fan, line) for fan, line in zip(FANS, lines)]
-        right = len(lines) == len(FANS) and not unended and None not in found
+        found = [reason_of(fan, *pair) for fan, pair in zip(FANS, zip(lines, lines[len(FANS) :]))]
+        right = len(lines) == 2 * len(FANS) and not unended and None not in found
         right = right and all(reason.duty() in (None, duty) for reason, duty in zip(found, shown[-2:]))
+        right = right and all(reason.age == chip.age(fan - 1) for fan, reason in zip(FANS, found))
     if not right:
         raise Failure(BUILD, f"the program's reasons are not of this trace: it prints {printed[:80]!r}")
     return found
@@ -90,11 +94,12 @@ def cuts(case):
 
 def after_each(case):
     """The reasons of both fans after each event, None before the first accepted power."""
-    rows = zip(reasons_of(cuts(case)), powered(case), case.shown)
-    return [told(printed, 0 if power else NO_POWER, shown) for printed, power, shown in rows]
+    rows = zip(reasons_of(cuts(case)), powered(case), case.shown, follow(case))
+    return [told(printed, 0 if power else NO_POWER, shown, chip) for printed, power, shown, chip in rows]
 
 
 def after_last(case):
     """What the program prints of the whole text, and the reasons of both fans in it, None where it is refused."""
     (printed,) = reasons_of([case.text])
-    return printed, told(printed, refusal_of(case), case.shown[-1] if case.shown else None)
+    last = (case.shown[-1], follow(case)[-1]) if case.shown else (None, None)
+    return printed, told(printed, refusal_of(case), *last)

@@ -13,12 +13,12 @@ HEAD = ("event", "what happens", "answer", "lines", "duty 1", "reason 1", "duty 
 GAPS = (0, 2, 2, 2, 2, 1, 2, 1)  # before each column
 RIGHT = (0,)  # columns whose words stand at the right
 WORDS = 1  # the column that gets the room which the others leave
-MORE = ("data hex", "percent1", "percent2", "reason1", "reason2")  # columns of the CSV behind those of the report
+MORE = ("data hex", "percent1", "percent2", "reason1", "reason2", "age1", "age2")  # columns of the CSV behind those of the report
 CSV_HEAD = ("event", *Event._fields, "words", *Shown._fields[:1], "reply", *Shown._fields[1:], *MORE)
 
 
 def options(parser):
-    parser.add_argument("--csv", action="store_true", help="comma-separated values with a header row, for a spreadsheet")
+    parser.add_argument("--csv", action="store_true", help="comma-separated values with a header row, for a spreadsheet; has the fans' ages too")
 
 
 def output(case, options):
@@ -77,7 +77,7 @@ def line_of(cells, widths):
 
 
 def csv_of(case):
-    """RFC 4180, in ASCII alone, since a spreadsheet may take the text for any encoding; reasons in the program's words."""
+    """RFC 4180, in ASCII alone, since a spreadsheet may take the text for any encoding; reasons in the program's words, ages in clock events."""
     text = io.StringIO()
     writer = csv.writer(text, lineterminator="\r\n")
     writer.writerow(CSV_HEAD)
@@ -85,6 +85,6 @@ def csv_of(case):
         words = event_words(event, shown, chip).replace("°C", "C")
         data = f"0x{shown.data:02X}" if event.kind == "read" and not shown.answer else ""
         percents = [f"{100 * duty / FULL:.4g}" for duty in (shown.duty1, shown.duty2)]
-        because = [reason.words() for reason in reasons] if reasons else ["", ""]
+        because = [*(reason.words() for reason in reasons), *(reason.age for reason in reasons)] if reasons else [""] * 4
         writer.writerow([number, *event, words, shown.answer, reply_words(event, shown), *shown[1:], data, *percents, *because])
     return text.getvalue()

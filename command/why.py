@@ -1,8 +1,9 @@
-"""The command `why`: the reasons as the program prints them, and a sentence a fan that can be read out."""
+"""The command `why`: the reasons and ages as the program prints them, and of each fan what can be read out."""
 from command.history import RELEASE, follow
 from command.reasons import FANS, after_last
 from command.registers import CHANNELS, CONFIG1, CONFIG2, THERM
 from command.report import FULL
+from command.since import since_words
 from command.status import BUILD, Failure
 from command.words import celsius, percent, register_words
 
@@ -18,8 +19,9 @@ def output(case, options):
 
 
 def sentences(case, reasons):
+    """Why a fan runs as it does, and since when."""
     chip = follow(case)[-1]
-    return [f"fan {fan} {SENTENCES[reason.what](fan, reason, chip)}" for fan, reason in zip(FANS, reasons)]
+    return [f"fan {fan} {SENTENCES[reason.what](fan, reason, chip)}. {since_words(fan, reason, chip)}" for fan, reason in zip(FANS, reasons)]
 
 
 def slots_words(slots):

@@ -1,11 +1,11 @@
 /* A keeper in a C program: power on, watch the local channel, heat it past its THERM limit of 70 degrees, read the status; why
-   the fans run as they do after each event; the panel after the last, and before the first.
+   the fans run as they do after each event, and since when; the panel after the last, and before the first.
    Then three keepers on one alert line, two of which pull it: who answers, until nobody does. */
 #include <stdio.h>
 
 #include "snezhulka.h"
 
-enum { POWER, WRITE, POINT, READ, SAMPLE };
+enum { POWER, WRITE, POINT, READ, SAMPLE, TACH, PIN, CLOCK };
 
 static void say_fan(int fan, struct snezhulka_fan_speed speed) {
     if (speed.its_case == SNEZHULKA_SPEED)
@@ -41,18 +41,22 @@ static uint8_t ask(struct snezhulka_alert_entry *row, size_t count) {
 
 int main(void) {
     const int32_t events[][4] = {
-        {POWER, 44, 0, 0},     {WRITE, 44, 0x00, 0x95}, {SAMPLE, 0, 0, 8 * 71}, {POINT, 44, 0x03, 0},
-        {READ, 44, 0, 0},      {READ, 44, 0, 0},        {SAMPLE, 0, 0, 8 * 65}, {SAMPLE, 0, 0, 8 * 64},
+        {POWER, 44, 0, 0},     {WRITE, 44, 0x00, 0x95}, {CLOCK, 0, 0, 0},       {SAMPLE, 0, 0, 8 * 71},
+        {CLOCK, 0, 0, 0},      {CLOCK, 0, 0, 0},        {POINT, 44, 0x03, 0},   {READ, 44, 0, 0},
+        {READ, 44, 0, 0},      {SAMPLE, 0, 0, 8 * 65},  {SAMPLE, 0, 0, 8 * 64},
     };
     uint8_t outcomes[sizeof events / sizeof *events][7];
     uint8_t reasons[sizeof events / sizeof *events][2][4];
+    uint16_t ages[sizeof events / sizeof *events][3];
     size_t end = snezhulka_steps(*events, sizeof events / sizeof **events, *outcomes, sizeof outcomes);
     size_t told = snezhulka_reasons(*events, sizeof events / sizeof **events, **reasons, sizeof reasons);
-    if (end == SNEZHULKA_WRONG_SIZE || told == SNEZHULKA_WRONG_SIZE)
+    size_t aged = snezhulka_ages(*events, sizeof events / sizeof **events, *ages, sizeof ages / sizeof **ages);
+    if (end == SNEZHULKA_WRONG_SIZE || told == SNEZHULKA_WRONG_SIZE || aged == SNEZHULKA_WRONG_SIZE)
         return 1;
     for (size_t i = 0; i < end / 7; i++)
-        printf("answer %d data %d therm %d duties %d %d because %d %d\n", outcomes[i][0], outcomes[i][1], outcomes[i][3],
-               outcomes[i][5], outcomes[i][6], reasons[i][0][0], reasons[i][1][0]);
+        printf("answer %d data %d therm %d duties %d %d because %d %d stamp %d ages %d %d\n", outcomes[i][0], outcomes[i][1],
+               outcomes[i][3], outcomes[i][5], outcomes[i][6], reasons[i][0][0], reasons[i][1][0], ages[i][0], ages[i][1],
+               ages[i][2]);
     say_panel(*events, sizeof events / sizeof **events);
     say_panel(*events, 0);
     struct snezhulka_alert_entry row[] = {{46, true}, {44, false}, {45, true}};

@@ -89,18 +89,26 @@ def need_program():
 
 
 def why_of(text):
-    """Both reasons that the program `why` prints of a text, or what it prints where these are not all of it."""
+    """Both reasons and both ages that the program `why` prints of a text, or what it prints where these are not all of it."""
     printed = subprocess.run([WHY], input=text, capture_output=True).stdout.decode("latin-1")
-    found = re.fullmatch("reason1=(.*)\nreason2=(.*)\n", printed)
+    found = re.fullmatch("reason1=(.*)\nreason2=(.*)\nage1=(.*)\nage2=(.*)\n", printed)
     return found.groups() if found else printed
 
 
 @functools.cache
-def reasons_of(text, count):
+def whys_of(text, count):
     """That of the text up to the end of each of so many events."""
     ends = [found.end() for found in re.finditer(rb"(?:[^\n]*\n){4}", text)][:count]
     with concurrent.futures.ThreadPoolExecutor(4) as pool:
         return list(pool.map(lambda end: why_of(text[:end]), ends))
+
+
+def reasons_of(text, count):
+    return [words if isinstance(words, str) else words[:2] for words in whys_of(text, count)]
+
+
+def ages_of(text, count):
+    return [words if isinstance(words, str) else words[2:] for words in whys_of(text, count)]
 
 
 def reading_of(channel, sample, byte):
