@@ -1,5 +1,6 @@
 //! What the compared traces and reports have reached.
 
+use crate::ages::Ages;
 use crate::alerts::{self, Alerts};
 use crate::diodes::Diodes;
 use crate::facts::Facts;
@@ -25,6 +26,7 @@ pub struct Coverage {
     facts: Facts,
     diodes: Diodes,
     pub panels: Panels,
+    pub ages: Ages,
 }
 
 impl Coverage {
@@ -43,6 +45,7 @@ impl Coverage {
             facts: Facts::none(),
             diodes: Diodes::none(),
             panels: Panels::none(),
+            ages: Ages::none(),
         }
     }
 
@@ -123,6 +126,7 @@ impl Coverage {
         self.facts.add(&other.facts);
         self.diodes.add(&other.diodes);
         self.panels.add(&other.panels);
+        self.ages.add(&other.ages);
     }
 
     fn distinct_duties(&self) -> usize {
@@ -148,6 +152,7 @@ impl Coverage {
         self.facts.print();
         self.diodes.print();
         self.panels.print();
+        self.ages.print();
     }
 
     /// What was never reached; nothing if all was.
@@ -183,6 +188,7 @@ impl Coverage {
         missing.extend(self.facts.missing());
         missing.extend(self.diodes.missing());
         missing.extend(self.panels.missing());
+        missing.extend(self.ages.missing());
         missing
     }
 }

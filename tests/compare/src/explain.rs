@@ -1,6 +1,7 @@
 //! Says where a trace differs, and shows the shortest one that still does.
 
-use crate::{events, images, lines, panels, reasons, shrink, traces};
+use crate::{ages, events, images, lines, panels, reasons, shrink, traces};
+use snezhulka::Event;
 
 /// The second program's report; a panic there counts as a report of its own, so that it is found like any difference.
 pub fn second_report(text: &[u8]) -> Vec<u8> {
@@ -22,6 +23,11 @@ fn image_differs(text: &[u8], index: u64) -> bool {
 /// What of the reasons differs; wrong text has none.
 fn reasons_difference(text: &[u8], index: u64) -> Option<&'static str> {
     events::events_of(text).and_then(|events| reasons::difference(&events, index))
+}
+
+/// What of the ages differs; wrong text has none.
+fn ages_difference(text: &[u8], index: u64) -> Option<&'static str> {
+    events::events_of(text).and_then(|events| ages::difference(&events, index))
 }
 
 /// What of the panels differs; wrong text has none.
@@ -57,12 +63,16 @@ fn other(seed: u64, index: u64, what: &str, differs: &dyn Fn(&[u8], u64) -> bool
     told(seed, index, what, &short)
 }
 
-/// The same of the reasons, and what both are.
-fn both_reasons(seed: u64, index: u64, what: &str) -> String {
-    let differs = |text: &[u8]| reasons_difference(text, index) == Some(what);
+/// What differs of the events of a text, and what both are after its last event.
+type Difference = fn(&[u8], u64) -> Option<&'static str>;
+type Shown = fn(&[Event]) -> String;
+
+/// The same of the reasons or the ages, and what both are.
+fn both(seed: u64, index: u64, what: &str, difference: Difference, shown: Shown) -> String {
+    let differs = |text: &[u8]| difference(text, index) == Some(what);
     let short = shrink::shortest(&traces::trace(seed, index), &differs);
-    let events = events::events_of(&short).expect("where reasons differ there are events");
-    told(seed, index, what, &short) + &reasons::shown(&events)
+    let events = events::events_of(&short).expect("where these differ there are events");
+    told(seed, index, what, &short) + &shown(&events)
 }
 
 /// The same of the panels: where one differs, the shortest trace after which it does.
@@ -96,7 +106,9 @@ pub fn in_process(seed: u64, index: u64) -> String {
     } else if image_differs(&text, index) {
         other(seed, index, "the register image", &image_differs)
     } else if let Some(what) = reasons_difference(&text, index) {
-        both_reasons(seed, index, what)
+        both(seed, index, what, reasons_difference, reasons::shown)
+    } else if let Some(what) = ages_difference(&text, index) {
+        both(seed, index, what, ages_difference, ages::shown)
     } else if let Some(what) = panel_difference(&text, index) {
         both_panels(seed, index, what)
     } else if copy_differs(&text, index) {

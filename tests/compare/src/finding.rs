@@ -2,7 +2,7 @@
 
 use crate::coverage::Coverage;
 use crate::explain::second_report;
-use crate::{events, images, lines, panels, reasons};
+use crate::{ages, events, images, lines, panels, reasons};
 
 /// What one thread has counted, and the first trace that differs, if any.
 pub struct Finding {
@@ -28,8 +28,8 @@ impl Finding {
         }
     }
 
-    /// Compares one trace: the replay; where the text is right, the engine alone, the register image, the reasons and the
-    /// panels; the text written again, and its first wrong line.
+    /// Compares one trace: the replay; where the text is right, the engine alone, the register image, the reasons, the
+    /// panels and the ages; the text written again, and its first wrong line.
     pub fn take(&mut self, text: &[u8], index: u64) {
         let expected = second_report(text);
         let report = snezhulka::report_of(text);
@@ -40,7 +40,8 @@ impl Finding {
         let image_alike = events.is_none_or(|events| self.take_image(events, index));
         let reasons = events.and_then(|events| reasons::difference(events, index));
         let panels = events.and_then(|events| panels::difference(events, index));
-        let told_alike = reasons.is_none() && panels.is_none();
+        let ages = events.and_then(|events| ages::difference(events, index));
+        let told_alike = reasons.is_none() && panels.is_none() && ages.is_none();
         let copy_alike = self.take_copy(text, index);
         let line_alike = self.take_line(text, index);
         let report_alike = report == expected && by_engine.is_none_or(|report| report == expected);
@@ -48,6 +49,7 @@ impl Finding {
             self.coverage.count(events, &report);
             if let Some(events) = events {
                 self.coverage.panels.count(events, index);
+                self.coverage.ages.count(events, index);
             }
         } else {
             self.different = Some(index);
@@ -135,7 +137,7 @@ impl Finding {
     /// How many traces were compared, and that none differs.
     pub fn print_end(&self) {
         println!(
-            "compared {} traces, {} events, all alike; {} of the traces with the engine alone, the reasons and the panel too",
+            "compared {} traces, {} events, all alike; {} of the traces with the engine alone, the reasons, the ages and the panel too",
             self.coverage.traces, self.coverage.events, self.engine_traces
         );
     }

@@ -1,5 +1,6 @@
 //! Random traces, and what the comparison and the benchmark need beside them.
 
+pub mod ages;
 pub mod alerts;
 pub mod coverage;
 pub mod diodes;

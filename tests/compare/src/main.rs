@@ -1,9 +1,10 @@
-//! Compares the proved keeper with the second program, byte for byte, over random traces and rows of alert entries.
+//! Compares the proved keeper with the second program, byte for byte, over random traces, rows of alert entries and long
+//! lists of events.
 //!
 //! compare [--traces N] [--seed S] [--program PATH] [--why PATH] [--panel PATH]
 
 use compare::finding::Finding;
-use compare::{displays, explain, program, rows, traces, whys};
+use compare::{ages, displays, explain, program, rows, traces, whys};
 use std::process::ExitCode;
 use std::sync::atomic::{AtomicBool, AtomicU64, Ordering};
 use std::thread;
@@ -82,10 +83,11 @@ fn compare_all(arguments: &Arguments) -> Finding {
 fn run() -> Result<(), String> {
     let arguments = arguments()?;
     let rows = rows::compare(arguments.seed)?;
-    let finding = compare_all(&arguments);
+    let mut finding = compare_all(&arguments);
     if let Some(index) = finding.different {
         return Err(explain::in_process(arguments.seed, index));
     }
+    finding.coverage.ages.add(&ages::compare(arguments.seed)?);
     if let Some(path) = &arguments.program {
         program::compare_replay(path, arguments.seed)?;
     }

@@ -3,6 +3,7 @@
 mod diodes;
 mod panel;
 mod reasons;
+mod stamps;
 
 use crate::keeper::{Event, Keeper, Kind, Reply};
 use crate::replay;

@@ -11,6 +11,7 @@ mod image;
 mod panel;
 mod reasons;
 mod replies;
+mod stamps;
 
 pub use panel::{Panel, Speed};
 pub use reasons::Reason;
@@ -62,7 +63,9 @@ pub struct Keeper {
     spin_up: [u8; 2], // clock events that remain
     alarm: [bool; 2],
     duty: [i32; 2],
-    silenced: bool, // an alert has let INT go
+    silenced: bool,  // an alert has let INT go
+    stamp: i32,      // accepted clock events since power, modulo 65,536
+    start: [i32; 2], // the stamp at which a fan last started
 }
 
 impl Default for Keeper {
@@ -87,6 +90,8 @@ impl Keeper {
             alarm: [false; 2],
             duty: [0; 2],
             silenced: false,
+            stamp: 0,
+            start: [0; 2],
         }
     }
 

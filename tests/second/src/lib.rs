@@ -1,7 +1,7 @@
 //! A replay of fan controller traces: the chip is in `keeper`, its register
 //! table in `table`, the trace reader and the report in `text`; the search of
-//! several keepers on one line in `row`; why the fans run as they do in `why`;
-//! degrees and revolutions in `panel`.
+//! several keepers on one line in `row`; why the fans run as they do, and since when,
+//! in `why`; degrees and revolutions in `panel`.
 
 pub mod keeper;
 pub mod panel;

@@ -1,19 +1,19 @@
-//! T-03: why the fans run as they do after the last event of a trace, in words.
+//! T-03 and T-07: why the fans run as they do after the last event of a trace, in words, and since when.
 
 use crate::keeper::{Keeper, Reason};
 use crate::text::{events, LONGEST};
 
-/// Two lines, one for each fan; where that is refused, only the answer.
+/// Four lines, the reason of each fan and then the age of each; where that is refused, only the answer.
 pub fn why(text: &[u8]) -> Vec<u8> {
-    let told = match reasons(text) {
-        Ok([first, second]) => format!("reason1={}\nreason2={}\n", words(first), words(second)),
+    let told = match lines(text) {
+        Ok(lines) => lines,
         Err(number) => format!("answer={number}\n"),
     };
     told.into_bytes()
 }
 
 // the length is judged before any line, and every line before the first event
-fn reasons(text: &[u8]) -> Result<[Reason; 2], u8> {
+fn lines(text: &[u8]) -> Result<String, u8> {
     if text.len() > LONGEST {
         return Err(11);
     }
@@ -22,7 +22,15 @@ fn reasons(text: &[u8]) -> Result<[Reason; 2], u8> {
     for e in events {
         keeper.take(e);
     }
-    Ok([keeper.why(1)?, keeper.why(2)?])
+    let (first, second) = (keeper.why(1)?, keeper.why(2)?);
+    let reasons = format!("reason1={}\nreason2={}\n", words(first), words(second));
+    Ok(reasons + &ages(&keeper))
+}
+
+// in clock events, of a fan at duty 0 too
+fn ages(keeper: &Keeper) -> String {
+    let [first, second] = [keeper.age(0), keeper.age(1)];
+    format!("age1={first}\nage2={second}\n")
 }
 
 fn words(reason: Reason) -> String {

@@ -50,5 +50,5 @@ fn counts_alerts_by_the_events_alone() {
 
 #[test]
 fn nothing_reached_is_missing() {
-    assert_eq!(Coverage::none().missing().len(), 344);
+    assert_eq!(Coverage::none().missing().len(), 419);
 }

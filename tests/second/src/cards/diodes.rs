@@ -172,15 +172,16 @@ fn mending_gives_flag_latch_and_reading_back() {
     bench.write(0x3F, 0x00);
     assert!(bench.sample(1, 201).therm);
     assert_eq!(bench.clocks(20).duty[0], 100);
-    let before = bench.0.clone();
+    let mut sound = Bench(bench.0.clone());
     assert_eq!(bench.diode(1, 1).duty[0], 240);
     assert_eq!(bench.answer(1, 0), 13);
+    sound.clocks(1);
     let reply = bench.clocks(1);
     assert!(reply.therm);
     assert_eq!(bench.reasons()[0], Reason::Demand(1));
     let reply = bench.diode(1, 0);
     assert_eq!((reply.duty[0], reply.therm), (100, true));
-    assert!(bench.0 == before);
+    assert!(bench.0 == sound.0);
     assert_eq!((bench.read(0x0B), bench.read(0x06)), (25, 1));
     assert_eq!(bench.read(0x02), 0x10);
     let reply = bench.sample(1, 0);

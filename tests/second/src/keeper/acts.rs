@@ -14,7 +14,10 @@ impl Keeper {
             Kind::Sample => self.sample(e.who as usize, e.val),
             Kind::Tach => self.tach(e.who as usize - 1, e.val as u8),
             Kind::Pin => self.pin(e.val == 0),
-            Kind::Clock => self.count_down(),
+            Kind::Clock => {
+                self.count_down();
+                self.count_clock();
+            }
             Kind::Period => {}
             Kind::Alert => self.alert(),
             Kind::Diode => self.diode(e.who as usize, e.val == 1),
@@ -32,14 +35,16 @@ impl Keeper {
         self.diode(2, error_2);
     }
 
-    // temperatures 9; errors found in service stay too
+    // temperatures 9; errors found in service stay too, and the stamp of T-07
     pub(super) fn software_reset(&mut self) {
         let pin_low = self.pin_low;
+        let stamp = self.stamp;
         let error_1 = self.diode_error(1);
         let error_2 = self.diode_error(2);
         self.power(self.address, error_1, error_2);
         self.pin_low = pin_low;
         self.pointer = CONFIG_2;
+        self.keep_stamp(stamp);
     }
 
     // "A write that is done sets the pointer too"

@@ -4,7 +4,7 @@ use super::{Event, Keeper, Kind};
 use crate::table::*;
 
 impl Keeper {
-    // duty 5, 6, 7, from the registers as they stand after the event
+    // duty 5, 6, 7 and T-07, from the registers as they stand after the event
     pub(super) fn settle(&mut self, fan: usize, e: Event) {
         let enabled = self.output_enabled(fan);
         let driven = enabled && (self.target(fan) > 0 || self.overridden());
@@ -12,7 +12,9 @@ impl Keeper {
             self.spin_up[fan] = self.spin_up_setting(fan);
         }
         let own_period = e.kind == Kind::Period && e.who as usize == fan + 1;
+        let was = self.duty[fan];
         self.duty[fan] = self.next_duty(fan, own_period);
+        self.note_start(fan, was);
         if self.duty[fan] == 0 {
             self.spin_up[fan] = 0;
         }
