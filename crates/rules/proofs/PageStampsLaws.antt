@@ -7,10 +7,12 @@ use native.Mathlib.Omega.{arith}
 use lib.IntN.{ℤ}
 use Rattle.integer.proofs.BoolLaws.{by-cases}
 use Rattle.part.specs.declared.FanId.{FanId}
+use Rattle.event.specs.declared.Aged.{Aged}
+use Rattle.event.specs.declared.Aged.the-variants.{Clocks, Refused}
 use Rattle.event.specs.declared.Event.{Event}
 use Rattle.rules.specs.Stored.{powered}
 use Rattle.rules.specs.Replies.{History, taken, accepted}
-use Rattle.rules.specs.Stamps.{clocks, stamp, ageFor, ageNumber}
+use Rattle.rules.specs.Stamps.{clocks, stamp, ageFor, ageNumber, ageClocks}
 use Rattle.rules.specs.PageWords.{power, Accepted, dutyOut}
 use Rattle.rules.specs.PageReplies.{oneOf}
 use Rattle.rules.specs.PageTemperatures.{reset}
@@ -23,6 +25,11 @@ use Rattle.rules.proofs.StampLaws.{counts-on, told-of, age-since, set-b
 no-fan : (h : History) (n : ℤ) → powered (taken h) ≡ true → oneOf (1 ∷ 2 ∷ []) n ≡ false → ageNumber (agedAt n h) ≡ 3
 unfolding ageFor
 no-fan h n on y = rw (on, neither-fan n y .0, neither-fan n y .1)
+
+-- where a refusal is told there is no age beside it
+none-beside : (a : Aged) → 0 < ageNumber a → ageClocks a ≡ 0
+none-beside (Clocks n) up = absurd (omega arith)
+none-beside (Refused r) up = refl
 
 module _ (h : History) where
   -- power begins the count at 0
@@ -56,6 +63,9 @@ page-stamps h =
       noPower = λ n off. (unfold ageFor in rw off);
       noFan = no-fan h;
       given = λ f on. ap ageNumber (told-of h f on);
+      reason = λ n. refl;
+      beside = λ n clocks is. ap ageClocks is;
+      untold = λ n up. none-beside (ageFor n (taken h)) up;
       stamp = λ w x y t go u. (unfold stamp in rw (counts-on t (power w x y ∷ h) u, at-power h w x y go) (omega arith));
       unpowered = before h;
       started = started h;

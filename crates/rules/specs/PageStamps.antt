@@ -11,12 +11,14 @@ use Rattle.event.specs.Kinds.{isKind}
 use Rattle.event.specs.declared.Aged.{Aged}
 use Rattle.event.specs.declared.Aged.the-variants.{Clocks}
 use Rattle.event.specs.declared.Event.{Event}
+use Rattle.event.specs.declared.Explanation.{Explanation}
 use Rattle.event.specs.declared.Kind.the-variants as kind
 use Rattle.rules.specs.Replies.{History, taken, accepted}
-use Rattle.rules.specs.Stamps.{stamp, ageFor, ageNumber}
+use Rattle.rules.specs.Stamps.{stamp, ageFor, ageNumber, explanationFor}
 use Rattle.rules.specs.PageWords.{power, Accepted, dutyOut, replyNumber, byFan}
 use Rattle.rules.specs.PageReplies.{oneOf, powerOn}
 use Rattle.rules.specs.PageTemperatures.{reset}
+use Rattle.rules.specs.PageReasons.{told}
 
 -- what is told after a list: the stamp; the age of the fan of a number, and of either fan
 abbrev pub stampOut : History → ℕ
@@ -27,6 +29,10 @@ agedAt n h = ageFor n (taken h)
 
 abbrev pub agedFan : FanId → History → Aged
 agedFan f h = agedAt (pos (byFan 1 2 f)) h
+
+-- and what is told of a fan in one answer
+abbrev pub explainedAt : (fan : ℤ) → History → Explanation
+explainedAt n h = explanationFor n (taken h)
 
 -- ---- counted in the list
 
@@ -63,6 +69,10 @@ pub record PageStamps (h : History) : Type 0 where
   pub noPower : (n : ℤ) → powerOn h ≡ false → ageNumber (agedAt n h) ≡ 1
   pub noFan : (n : ℤ) → powerOn h ≡ true → oneOf (1 ∷ 2 ∷ []) n ≡ false → ageNumber (agedAt n h) ≡ 3
   pub given : (f : FanId) → powerOn h ≡ true → ageNumber (agedFan f h) ≡ 0
+  -- "Reasons should say how long": one answer has what is told of the reason (T-03) and, beside it, the age; 0 where none is told
+  pub reason : (n : ℤ) → explainedAt n h .why ≡ told n h
+  pub beside : (n : ℤ) (clocks : ℕ) → agedAt n h ≡ Clocks clocks → explainedAt n h .age ≡ clocks
+  pub untold : (n : ℤ) → 0 < ageNumber (agedAt n h) → explainedAt n h .age ≡ 0
   -- "a stamp, the number of accepted clock events since power modulo 65,536"; 0 before power
   pub stamp :
       (w x y : ℤ) (t : List Event) → Accepted (power w x y) h → Unpowered t (power w x y ∷ h) →
