@@ -1,3 +1,4 @@
+#![tactic(auto)]
 // The search at the alert response address of the SMBus specification, 0x0C: of the keepers on one alert line that assert it, the lowest
 // address answers and lets go. It works on a lent row alone, one entry for each keeper.
 ghost use Rattle.std.specs.Prelude.{◌≡◌};
@@ -7,7 +8,7 @@ ghost use Rattle.alert.specs.Tally.{no_entries, lower_of, counted_of, released_o
 use event::{AlertEntry, Answer, Refusal};
 
 // What is known of some entries: an address outside 44 to 46, one that two have, which are there, whether one asserts, the lowest that does.
-#[derive(Drop)]
+#[derive(Clone, Copy)]
 struct Tally {
     outside: bool,
     twice: bool,

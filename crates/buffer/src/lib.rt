@@ -1,3 +1,4 @@
+#![tactic(auto)]
 // Text into a lent buffer, from an index on: bytes and decimals.
 // What would stand past the end is dropped; who must not lose any asks `fits` first.
 ghost use Rattle.std.specs.Prelude.{◌≡◌, ◌+◌, ◌∷◌, leb, length, set};
@@ -9,7 +10,7 @@ use event::Refusal;
 use integer::Split;
 
 // Where a text that was put ends; or that it was refused, and the buffer is as it was.
-#[derive(Drop)]
+#[derive(Clone, Copy)]
 pub enum Put {
     End(usize),
     Refused(Refusal),

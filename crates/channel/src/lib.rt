@@ -1,3 +1,4 @@
+#![tactic(auto)]
 // The temperature channels, and what an event makes of them: reading, THERM latch, run flag, status bits, diode error.
 // One function serves all three.
 mod status;
@@ -13,7 +14,7 @@ use part::{ChannelId, FanId};
 use stored::Context;
 
 // The last reading, the THERM latch and the run flag; then the high, low and THERM status bits, and the diode error.
-#[derive(Drop)]
+#[derive(Clone, Copy)]
 pub struct Channel {
     pub reading: u16,
     pub latch: bool,
@@ -24,7 +25,7 @@ pub struct Channel {
     pub error: bool,
 }
 
-#[derive(Drop)]
+#[derive(Clone, Copy)]
 pub struct Channels {
     pub local: Channel,
     pub remote1: Channel,

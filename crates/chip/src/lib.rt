@@ -1,3 +1,4 @@
+#![tactic(auto)]
 // The state of a chip that has power, and what an accepted event makes of it.
 // Each part moves by its own rule, under the registers as they stand after the event.
 ghost use Rattle.std.specs.Prelude.{◌≡◌};
@@ -11,7 +12,7 @@ use part::FanId;
 use stored::{Context, Registers};
 
 // What is neither register, channel nor fan: bus address and pointer, pin level, and the pin's status bit.
-#[derive(Drop)]
+#[derive(Clone, Copy)]
 pub struct Port {
     pub address: u8,
     pub pointer: u8,
@@ -19,7 +20,7 @@ pub struct Port {
     pub pulled: bool,
 }
 
-#[derive(Drop)]
+#[derive(Clone, Copy)]
 pub struct Chip {
     pub port: Port,
     pub registers: Registers,

@@ -1,3 +1,4 @@
+#![tactic(auto)]
 // Canonical decimals: no plus sign, no leading zero, no -0, within a signed 32-bit number.
 // This crate reads them; `buffer` writes them.
 ghost use Rattle.std.specs.Prelude.{◌≡◌};
@@ -6,13 +7,13 @@ ghost use Rattle.decimal.specs.Decimal.{digits_from, capped, unsigned_of, signed
 use integer::Split;
 
 // The value of a run of digits.
-#[derive(Drop)]
+#[derive(Clone, Copy)]
 pub enum Magnitude {
     Value(u64),
     Bad,
 }
 
-#[derive(Drop)]
+#[derive(Clone, Copy)]
 pub enum Decimal {
     Number(i32),
     Malformed,

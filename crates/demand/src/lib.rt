@@ -1,3 +1,4 @@
+#![tactic(auto)]
 // What the channels ask of a fan, on plain numbers: demand, assignment, target, override.
 // A duty is in slots of 240; a reading has 1024 added.
 ghost use Rattle.std.specs.Prelude.{◌≡◌, ◌+◌, ◌-◌, ◌*◌, min, max};

@@ -1,5 +1,5 @@
 -- The device's functions, a law for each return. Assumes nothing.
-use Rattle.std.proofs.Common.{◌≡◌, ℕ, Bool, true, false, not, ◌&&◌, ◌||◌, sym, refl, ◌∙◌}
+use Rattle.std.proofs.Common.{◌≡◌, ℕ, Bool, true, false, not, ◌&&◌, ◌||◌, sym, ◌∙◌}
 use Rattle.integer.specs.Bits.{bit_of}
 use Rattle.part.specs.declared.FanId.TheVariants.{One, Two}
 use Rattle.event.specs.declared.Kind.TheVariants as kind

@@ -1,3 +1,4 @@
+#![tactic(auto)]
 // A chip, its INT line, which an alert lets go until a status bit rises, a reset or a power (T-02 of document 02), and its stamps (T-07).
 // Chip, channels and fans know nothing of either: both follow from the event, the chip before it and the chip after it.
 mod stamping;
@@ -13,14 +14,14 @@ use part::FanId;
 pub use stamping::age;
 
 // The stamp, and that of each fan when it last started.
-#[derive(Drop)]
+#[derive(Clone, Copy)]
 pub struct Stamps {
     pub now: u16,
     pub fan1: u16,
     pub fan2: u16,
 }
 
-#[derive(Drop)]
+#[derive(Clone, Copy)]
 pub struct Device {
     pub chip: Chip,
     pub silenced: bool,

@@ -1,5 +1,5 @@
 -- The lines as they are worked out, as they are defined, and in whole numbers by registers: the same. Assumes nothing.
-use Rattle.std.proofs.Common.{◌≡◌, ℕ, zero, suc, ◌+◌, ◌*◌, ◌/◌, ◌<◌, ◌≤◌, true, false, eqb, List, ◌++◌, ℤ, pos, negsuc, ◌+ℤ◌, ◌*ℤ◌, neg_ℤ, sym, refl, ap, ◌∙◌, mul-le-mul, mul-pos, arith, lt-ltb, le-leb}
+use Rattle.std.proofs.Common.{◌≡◌, ℕ, zero, suc, ◌+◌, ◌*◌, ◌/◌, ◌<◌, ◌≤◌, true, eqb, List, ◌++◌, ℤ, pos, negsuc, ◌+ℤ◌, ◌*ℤ◌, neg_ℤ, sym, ap, ◌∙◌, mul-le-mul, mul-pos, arith, lt-ltb, le-leb}
 use lib.Ieee.{Float}
 use lib.Signed.{le_z, lt_z}
 use borrow.Author.Tests.{eqb-false}

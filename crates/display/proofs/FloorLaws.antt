@@ -1,7 +1,6 @@
 -- What is printed of a figure is the whole number below it: computed over every reading and every product of count and divisor. Assumes nothing.
-use Rattle.std.proofs.Common.{◌≡◌, ℕ, zero, suc, ◌+◌, ◌-◌, ◌*◌, ◌/◌, ◌<◌, ◌≤◌, Bool, true, false, ◌&&◌, eqb, ltb, leb, ℤ, pos, negsuc, sym, refl, ap, ◌∙◌, mul-le-mul, mul-pos, arith, le-ltb, lt-ltb, eqb-true, leb-true}
-use lib.Ieee.{add, mul, lt, to_unsigned, round, sum, units, odd, size, span, climb}
-use lib.Signed.{le_z}
+use Rattle.std.proofs.Common.{◌≡◌, ℕ, zero, suc, ◌+◌, ◌-◌, ◌/◌, ◌<◌, ◌≤◌, Bool, true, false, ◌&&◌, eqb, leb, ℤ, pos, negsuc, refl, ap, arith, le-ltb, lt-ltb, eqb-true, leb-true}
+use lib.Ieee.{add, mul, lt, to_unsigned, round}
 use borrow.Author.Tests.{eqb-false}
 use Rattle.integer.proofs.BoolLaws.{by_cases, both}
 use Rattle.rules.specs.Events.{from_to, lies}

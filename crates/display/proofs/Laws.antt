@@ -1,5 +1,5 @@
 -- What is put of a text: the lines of the panel, or the number of a refusal. Assumes nothing.
-use Rattle.std.proofs.Common.{◌≡◌, ℕ, List, refl}
+use Rattle.std.proofs.Common.{◌≡◌, ℕ, List}
 use Rattle.event.specs.Answers.{refusal_number}
 use Rattle.event.specs.declared.Panel as panel
 use Rattle.event.specs.declared.Paneled.{Paneled}

@@ -1,5 +1,5 @@
 -- The lines have at most 100 bytes, whatever the text. Assumes nothing.
-use Rattle.std.proofs.Common.{◌≡◌, ℕ, ◌+◌, ◌<◌, ◌≤◌, Bool, true, false, cond, ltb, List, [], ◌∷◌, ◌++◌, length, ℤ, pos, sym, refl, ap, arith, length-append, w32, SFits, ltb-true}
+use Rattle.std.proofs.Common.{◌≡◌, ℕ, ◌+◌, ◌<◌, ◌≤◌, ltb, List, [], ◌∷◌, ◌++◌, length, ℤ, pos, arith, length-append, w32, SFits, ltb-true}
 use lib.Ieee.{Float, to_unsigned}
 use Rattle.integer.proofs.BoolLaws.{by_cases, either}
 use Rattle.decimal.specs.Decimal.{decimal_of, text_of}

@@ -1,16 +1,16 @@
 -- The lines of a panel, put one behind the other in an array aside. Assumes nothing.
-use Rattle.std.proofs.Common.{◌≡◌, ℕ, zero, suc, ◌+◌, ◌-◌, ◌<◌, ◌≤◌, Bool, true, false, ◌&&◌, T, ltb, List, [], ◌∷◌, ◌++◌, length, take, drop, set, ℤ, pos, negsuc, ◌-ℤ◌, sym, refl, ap, ◌∙◌, subst, append_assoc, arith, w32, SFits, to_z, of_z, ltb-false, ltb-true, le-ltb, lt-ltb}
+use Rattle.std.proofs.Common.{◌≡◌, ℕ, ◌+◌, ◌-◌, ◌<◌, ◌≤◌, Bool, true, false, ◌&&◌, T, ltb, List, ◌++◌, length, take, drop, set, ℤ, pos, ◌-ℤ◌, sym, refl, ap, ◌∙◌, subst, append_assoc, arith, w32, SFits, to_z, of_z, ltb-false, ltb-true, le-ltb, lt-ltb}
 use lib.Ieee.{Float, fin, binary64, of_bits, neg, lt, add, mul, to_unsigned}
 use lib.Seq.{sets}
 use mir.ValLaws.{to_z_pos, to_z-of_z}
 use Rattle.integer.proofs.BoolLaws.{by_cases, both}
-use Rattle.buffer.proofs.TextLaws.{then, end_then, line_end, line_put, aside, aside_room}
+use Rattle.buffer.proofs.TextLaws.{then, end_then, line_end, line_put, aside}
 use Rattle.event.specs.declared.FanSpeed.{FanSpeed}
 use Rattle.event.specs.declared.FanSpeed.TheVariants.{NotMeasured, Stalled, Speed}
 use Rattle.event.specs.declared.Panel.{Panel}
 use Rattle.trace.specs.Trace.{ended, number_text}
 use Rattle.display.specs.Lines.{local_name, remote1_name, remote2_name, fan1_name, fan2_name, none_word, stalled_word, speed_line, figure_lines}
-use Rattle.display.specs.Worked.{narrow_of, short_of, whole_of, revolutions_of, tenths_of, worked_speed, worked_text}
+use Rattle.display.specs.Worked.{narrow_of, short_of, whole_of, tenths_of, worked_speed, worked_text}
 
 -- ---- whole numbers
 

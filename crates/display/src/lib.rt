@@ -1,3 +1,4 @@
+#![tactic(auto)]
 // Trace text in, the panel after its last event out, as lines.
 // A buffer too short for the lines stays as it was.
 mod lines;

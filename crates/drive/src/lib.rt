@@ -1,3 +1,4 @@
+#![tactic(auto)]
 // What one event does to a fan, on plain numbers: ramp, spin-up, duty, alarm speed and judged tach counts.
 // A duty is in slots of 240.
 ghost use Rattle.std.specs.Prelude.{◌≡◌};
@@ -6,7 +7,7 @@ ghost use Rattle.drive.specs.Drive.{duty_of, starts_of, left_of, driven_of, alar
 ghost use Rattle.drive.specs.Tach.{judged_of, failed_of, run_of};
 
 // What registers, pin and channels ask of a fan after an event.
-#[derive(Drop)]
+#[derive(Clone, Copy)]
 pub struct Setting {
     pub enabled: bool,
     pub overridden: bool,
@@ -17,7 +18,7 @@ pub struct Setting {
 }
 
 // What an event is to a fan: a clock, a period of its own, a failed measurement of its own.
-#[derive(Drop)]
+#[derive(Clone, Copy)]
 pub struct FanInput {
     pub clock: bool,
     pub period: bool,
@@ -25,7 +26,7 @@ pub struct FanInput {
 }
 
 // A fan's duty, and the clock events that are left of its spin-up.
-#[derive(Drop)]
+#[derive(Clone, Copy)]
 pub struct Drive {
     pub duty: u8,
     pub left: u8,

@@ -1,3 +1,4 @@
+#![tactic(auto)]
 // The vocabulary of the chip's border: the events that it takes, the answers that it gives, the outputs that it shows, the reasons for them, the panel.
 // Nothing here acts; every crate above speaks in these terms.
 ghost use Rattle.std.specs.Prelude.{◌≡◌};
@@ -7,7 +8,7 @@ ghost use Rattle.event.specs.Answers.{refusal_number, number_of, data_of};
 use part::ChannelId;
 
 // The three numbers of an event.
-#[derive(Drop)]
+#[derive(Clone, Copy)]
 pub struct Numbers {
     pub who: i32,
     pub arg: i32,
@@ -15,14 +16,14 @@ pub struct Numbers {
 }
 
 // A transfer on the bus.
-#[derive(Drop)]
+#[derive(Clone, Copy)]
 pub enum Transfer {
     Write(Numbers),
     Point(Numbers),
     Read(Numbers),
 }
 
-#[derive(Drop)]
+#[derive(Clone, Copy)]
 pub enum Event {
     Power(Numbers),
     Bus(Transfer),
@@ -36,7 +37,7 @@ pub enum Event {
 }
 
 // The kinds of document 01's table, in its order, and those of document 02 behind them.
-#[derive(Drop)]
+#[derive(Clone, Copy)]
 pub enum Kind {
     Power,
     Write,
@@ -174,7 +175,7 @@ pub fn kind_at(place: u16) -> Kind
 }
 
 // Why an event, an image, a text or a row of alert entries is refused: the replies from 1, in their order.
-#[derive(Drop)]
+#[derive(Clone, Copy)]
 pub enum Refusal {
     NoPower,
     OtherAddress,
@@ -192,7 +193,7 @@ pub enum Refusal {
 }
 
 // What any of them is answered: done, with data that only a read and a row hand out, or a refusal.
-#[derive(Drop)]
+#[derive(Clone, Copy)]
 pub enum Answer {
     Done(u8),
     Refused(Refusal),
@@ -237,7 +238,7 @@ pub fn data_of(a: Answer) -> u8
 }
 
 // The outputs: 1 while asserted, else 0; the duties in slots of 240.
-#[derive(Drop)]
+#[derive(Clone, Copy)]
 pub struct Shown {
     pub int: u8,
     pub therm: u8,
@@ -248,14 +249,14 @@ pub struct Shown {
 
 // A keeper on the alert line (T-02 of document 02): its address, and whether it asserts the line.
 #[repr(C)]
-#[derive(Drop)]
+#[derive(Clone, Copy)]
 pub struct AlertEntry {
     pub address: u8,
     pub asserting: bool,
 }
 
 // A fan on its way to its target: the slots that are left, whether upward, and the target.
-#[derive(Drop)]
+#[derive(Clone, Copy)]
 pub struct Ramp {
     pub left: u8,
     pub up: bool,
@@ -264,7 +265,7 @@ pub struct Ramp {
 
 // Why a fan has its duty (T-03 of document 02), in the order in which they are asked: the channel is the lowest whose latch is
 // on; the number of a spin-up is the clock events left; the channel of a demand is the lowest that asks the most.
-#[derive(Drop)]
+#[derive(Clone, Copy)]
 pub enum Reason {
     Disabled,
     PinLow,
@@ -277,28 +278,28 @@ pub enum Reason {
 }
 
 // What is told of a fan: a reason, or why there is none.
-#[derive(Drop)]
+#[derive(Clone, Copy)]
 pub enum Why {
     Because(Reason),
     Refused(Refusal),
 }
 
 // Since when a fan turns (T-07 of document 02): the clock events since it started, modulo 65,536; or why that is not told.
-#[derive(Drop)]
+#[derive(Clone, Copy)]
 pub enum Aged {
     Clocks(u16),
     Refused(Refusal),
 }
 
 // Why a fan has its duty, and beside it its age in clock events, 0 where nothing is told.
-#[derive(Drop)]
+#[derive(Clone, Copy)]
 pub struct Explanation {
     pub why: Why,
     pub age: u16,
 }
 
 // The speed of a fan on a panel (T-06 of document 02), by its count: 0, 255, or any other, which gives revolutions a minute.
-#[derive(Drop)]
+#[derive(Clone, Copy)]
 pub enum FanSpeed {
     NotMeasured,
     Stalled,
@@ -306,7 +307,7 @@ pub enum FanSpeed {
 }
 
 // The temperatures in degrees, and the speeds of both fans.
-#[derive(Drop)]
+#[derive(Clone, Copy)]
 pub struct Panel {
     pub local: f64,
     pub remote1: f64,
@@ -316,7 +317,7 @@ pub struct Panel {
 }
 
 // What is told of a keeper: its panel, or why there is none.
-#[derive(Drop)]
+#[derive(Clone, Copy)]
 pub enum Paneled {
     Panel(Panel),
     Refused(Refusal),

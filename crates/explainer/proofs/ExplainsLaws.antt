@@ -1,6 +1,6 @@
 -- What is printed of a text, by what it was written of. Assumes nothing.
 use Prim.Native.Nat.{ℕ}
-use mathlib.Core.Path.{◌≡◌, ◌∙◌}
+use mathlib.Core.Path.{◌∙◌}
 use mathlib.Core.List.{List}
 use Rattle.decimal.specs.Decimal.{decimal_of}
 use Rattle.rules.specs.Reasons.{why_for}

@@ -1,6 +1,6 @@
 -- What is put of a text: the lines of both fans, or the number of a refusal. Assumes nothing.
 use Prim.Native.Nat.{ℕ}
-use mathlib.Core.Path.{◌≡◌, refl}
+use mathlib.Core.Path.{◌≡◌}
 use mathlib.Core.List.{List}
 use lib.IntN.{pos}
 use Rattle.event.specs.Answers.{refusal_number}

@@ -1,3 +1,4 @@
+#![tactic(auto)]
 // Trace text in, why both fans have their duties after its last event and since when they turn out, as lines.
 // A buffer too short for the lines stays as it was.
 mod words;

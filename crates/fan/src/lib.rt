@@ -1,3 +1,4 @@
+#![tactic(auto)]
 // A fan, and what an event makes of it: duty and spin-up, run of failures, alarm speed, status bits.
 // One function serves both.
 ghost use Rattle.std.specs.Prelude.{◌≡◌};
@@ -16,7 +17,7 @@ use part::{ChannelId, FanId};
 use stored::{ChannelRegisters, Context, Registers};
 
 // Duty and spin-up, run of failures, whether it is at alarm speed; then the alarm and fault status bits.
-#[derive(Drop)]
+#[derive(Clone, Copy)]
 pub struct Fan {
     pub drive: Drive,
     pub run: u8,

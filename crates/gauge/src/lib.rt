@@ -1,3 +1,4 @@
+#![tactic(auto)]
 // The panel of a keeper (T-06 of document 02): its temperatures in degrees, the speeds of its fans in revolutions a minute.
 // Each figure is one division of two whole numbers, rounded once; a temperature loses nothing by it.
 ghost use Rattle.std.specs.Prelude.{◌≡◌, ◌≤◌};

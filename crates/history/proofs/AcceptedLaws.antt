@@ -1,29 +1,21 @@
 -- An event whose numbers are in their ranges: its plain numbers are its numbers. Assumes nothing.
-use Prim.Native.Nat.{ℕ, ◌%◌, ◌≤◌, ◌<◌}
-use mathlib.Core.Path.{◌≡◌, refl, sym, ap, ◌∙◌}
-use mathlib.Core.Bool.{Bool, true, false, cond, not, ◌&&◌, ◌||◌, true≢false}
-use lib.Dec.{eqb, leb, ltb}
+use Prim.Native.Nat.{ℕ, ◌%◌, ◌<◌}
+use mathlib.Core.Path.{◌≡◌, ap}
+use mathlib.Core.Bool.{Bool, true, false, ◌||◌}
+use lib.Dec.{leb}
 use lib.IntN.{ℤ, pos, negsuc}
-use lib.ListN.{get_or}
-use lib.Signed.{le_z}
 use native.Mathlib.Omega.{arith}
-use borrow.Author.Tests.{eqb-true, leb-true, lt-ltb, not-false}
+use borrow.Author.Tests.{leb-true, lt-ltb}
 use Rattle.integer.proofs.BoolLaws.{by_cases, both}
-use Rattle.integer.specs.Bits.{bit_of}
 use Rattle.integer.specs.Range.{eighths_of}
-use Rattle.integer.specs.declared.Ranged.TheVariants.{In, Out}
-use Rattle.event.specs.Kinds.{place_of, kind_of, is_kind}
-use Rattle.event.specs.declared.Answer.{Answer}
-use Rattle.event.specs.declared.Answer.TheVariants.{Done, Refused}
-use Rattle.event.specs.declared.Refusal.{Refusal}
-use Rattle.event.specs.declared.Refusal.TheVariants.{NoPower, OtherAddress, NoSuchPart, NoSuchRegister, ReadOnly, OutOfRange, BadRangeCode, OddLocal}
-use Rattle.event.specs.declared.Refusal.TheVariants.{NotMonitoring}
+use Rattle.integer.specs.declared.Ranged.TheVariants.{In}
+use Rattle.event.specs.Kinds.{is_kind}
 use Rattle.event.specs.declared.Event.{Event}
 use Rattle.event.specs.declared.Kind.TheVariants as kind
 use Rattle.rules.specs.Registers.{config2}
-use Rattle.rules.specs.Events.{who, arg, val, is_number, natural, register_given, byte_given, Ranges, ranges, unused, lies, from_to, carried, ranges_of, writes}
-use Rattle.rules.specs.Events.{resets, restarts}
-use Rattle.rules.specs.Stored.{Taken, counts}
+use Rattle.rules.specs.Events.{who, arg, val, natural, register_given, byte_given, lies, from_to, writes}
+use Rattle.rules.specs.Events.{restarts}
+use Rattle.rules.specs.Stored.{counts}
 use Rattle.rules.specs.Replies as replies
 use Rattle.rules.specs.Replies.{lowest, reply_to, accepts}
 use Rattle.rules.proofs.EventLaws.{who_lies, arg_lies, val_lies}

@@ -1,7 +1,7 @@
 -- The agreement holds of every list. Assumes nothing.
-use Prim.Native.Nat.{ℕ, zero, suc, ◌<◌, ◌%◌}
+use Prim.Native.Nat.{ℕ, zero, suc, ◌<◌}
 use mathlib.Core.Path.{◌≡◌, refl, sym, ap, ◌∙◌}
-use mathlib.Core.Bool.{Bool, true, false, cond, not, ◌&&◌, ◌||◌, true≢false}
+use mathlib.Core.Bool.{Bool, true, false, cond, not, ◌&&◌, true≢false}
 use mathlib.Core.List.{List, [], ◌∷◌}
 use native.Mathlib.Omega.{arith}
 use lib.Dec.{eqb}
@@ -12,10 +12,7 @@ use Rattle.part.specs.declared.FanId.TheVariants.{One, Two}
 use Rattle.event.specs.Kinds.{is_kind, place_of, kind_of}
 use Rattle.event.specs.declared.Event.{Event}
 use Rattle.event.specs.declared.Kind.TheVariants as kind
-use Rattle.event.specs.declared.Answer.{Answer}
 use Rattle.event.specs.declared.Answer.TheVariants.{Done}
-use Rattle.event.specs.declared.Shown.{Shown}
-use Rattle.rules.specs.Events.{natural, who}
 use Rattle.rules.specs.Stored.{Taken, powered, own_address, stored_at, pointer, pin_low, diode_error, pulled_bit}
 use Rattle.rules.specs.Replies.{lowest, reply_to, accepts, History, taken}
 use Rattle.rules.specs.Replies as replies
@@ -24,22 +21,16 @@ use Rattle.rules.specs.Targets.{flag, overridden}
 use Rattle.rules.specs.Duties.{spin, duty, failures, at_alarm, alarm_bit, fault_bit}
 use Rattle.rules.specs.Shows as shows
 use Rattle.rules.specs.Stamps.{clocks, stamp, fan_stamp}
-use Rattle.input.specs.Inputs.{plain_of, input_of}
+use Rattle.input.specs.Inputs.{input_of}
 use Rattle.judge.specs.Judged.{lowest_in}
 use Rattle.judge.specs.declared.Standing.{Standing}
 use Rattle.judge.proofs.RightLaws.{right}
-use Rattle.stored.specs.declared.Registers.{Registers}
-use Rattle.channel.specs.declared.Channels.{Channels}
-use Rattle.fan.specs.declared.Fan.{Fan}
 use Rattle.chip.specs.Chips.{chip_with, chip_under, chip_after}
-use Rattle.chip.specs.declared.Port.{Port}
-use Rattle.chip.specs.declared.Chip.{Chip}
 use Rattle.device.specs.Devices.{device_after}
 use Rattle.device.specs.declared.Device.{Device}
 use Rattle.keeper.specs.Keeping as keeping
 use Rattle.keeper.specs.Keeping.{is_on, device_in, standing_of, outcome_of, shown_by, stamp_by}
 use Rattle.keeper.specs.declared.Keeper.{Keeper}
-use Rattle.keeper.specs.declared.Keeper.TheVariants.{Off, On}
 use Rattle.keeper.specs.declared.Outcome.{Outcome}
 use Rattle.reason.specs.Reasoning.{why_of}
 use Rattle.reason.specs.Aging.{explanation_of, aged_of}

@@ -1,5 +1,4 @@
 -- The engine's counts are those of the list. Assumes nothing.
-use Prim.Native.Nat.{min}
 use mathlib.Core.Path.{◌≡◌, refl, ap, ◌∙◌}
 use Rattle.part.specs.declared.FanId.{FanId}
 use Rattle.part.specs.declared.FanId.TheVariants.{One, Two}

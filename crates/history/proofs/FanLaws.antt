@@ -1,10 +1,10 @@
 -- One accepted event: the fans of the engine move as the rules say. Assumes nothing.
 use Prim.Native.Nat.{ℕ, suc, ◌-◌, min}
-use mathlib.Core.Path.{◌≡◌, refl, sym, ap, ◌∙◌}
-use mathlib.Core.Bool.{Bool, true, false, cond, not, ◌&&◌, ◌||◌, true≢false}
+use mathlib.Core.Path.{◌≡◌, refl, sym, ap}
+use mathlib.Core.Bool.{Bool, true, false, cond, ◌||◌}
 use mathlib.Core.List.{◌∷◌}
 use native.Mathlib.Omega.{arith}
-use lib.Dec.{ltb, eqb}
+use lib.Dec.{eqb}
 use borrow.Author.Tests.{eqb-true}
 use Rattle.integer.proofs.BoolLaws.{by_cases, both}
 use Rattle.part.specs.declared.ChannelId.{ChannelId}
@@ -14,26 +14,23 @@ use Rattle.part.specs.declared.FanId.TheVariants.{One, Two}
 use Rattle.event.specs.Kinds.{is_kind, place_of, kind_of}
 use Rattle.event.specs.declared.Event.{Event}
 use Rattle.event.specs.declared.Kind.TheVariants as kind
-use Rattle.rules.specs.Registers.{speeds, control_at, status_at, tach_limit_at}
+use Rattle.rules.specs.Registers.{speeds, control_at, status_at}
 use Rattle.rules.specs.Fields.{speed_code}
-use Rattle.rules.specs.Events.{byte_given, measures, periods, reads, restarts}
+use Rattle.rules.specs.Events.{measures, periods, reads, restarts}
 use Rattle.rules.specs.Stored.{Taken, stored_at, pointer, pin_low, diode_error}
 use Rattle.rules.specs.Replies as replies
 use Rattle.rules.specs.Temperatures.{temperature, therm_asserted}
 use Rattle.rules.specs.Targets.{tmin_of, range_of, flag, demand, target, overridden}
-use Rattle.rules.specs.Duties.{tach_on, Spin, left, prior, judged_in, failed_in, spin_up_starts, given_after, since_after, duty_after, spin_at, spin_after, spin}
+use Rattle.rules.specs.Duties.{tach_on, Spin, prior, judged_in, failed_in, spin_up_starts, given_after, since_after, duty_after, spin_at, spin_after, spin}
 use Rattle.rules.specs.Duties.{judged, failed, failures, at_alarm, alarm_bit, fault_bit}
 use Rattle.demand.specs.Demand.{demand_of}
 use Rattle.demand.proofs.SignedLaws.{faithful_demand}
 use Rattle.drive.specs.Drive.{duty_of, starts_of, left_of, drive_at, driven_of}
 use Rattle.drive.specs.Tach.{run_of}
-use Rattle.drive.specs.declared.Drive.{Drive}
-use Rattle.drive.specs.declared.Setting.{Setting}
 use Rattle.input.specs.Inputs.{eighths_held, input_of, bit_after}
 use Rattle.input.proofs.PlainLaws.{count_is, period_is}
 use Rattle.stored.specs.Stored.{fan_registers_of}
 use Rattle.fan.specs.Fans.{fan_target, setting_of, prior_fan, judges_fan, fails_fan, fan_input_of, fan_run, fan_under, fan_after}
-use Rattle.fan.specs.declared.Fan.{Fan}
 use Rattle.history.proofs.State.{channel_registers_by, fan_registers_by, registers_by, context_by, channel_by, channels_by, setting_by, drive_by, fan_by}
 use Rattle.history.proofs.AcceptedLaws.{counted_is, restart_is}
 use Rattle.history.proofs.HeldLaws.{held}

@@ -1,5 +1,5 @@
 -- The keeper that the rules describe.
-use Prim.Native.Nat.{ℕ, min}
+use Prim.Native.Nat.{min}
 use mathlib.Core.Bool.{cond}
 use mathlib.Core.List.{◌∷◌}
 use Rattle.part.specs.declared.ChannelId.{ChannelId}

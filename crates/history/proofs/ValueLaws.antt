@@ -1,27 +1,26 @@
 -- The chip that the rules describe shows what the rules say: registers and outputs. Assumes nothing.
 use Prim.Native.Nat.{ℕ, min}
-use mathlib.Core.Path.{◌≡◌, refl, sym, ap, ◌∙◌, subst}
-use mathlib.Core.Bool.{Bool, true, false, cond, ◌&&◌, ◌||◌, true≢false}
+use mathlib.Core.Path.{◌≡◌, refl, sym, ◌∙◌, subst}
+use mathlib.Core.Bool.{true, false, true≢false}
 use mathlib.Core.List.{List, [], ◌∷◌}
 use native.Mathlib.Omega.{arith}
 use lib.Bits.{bit_and, and_zero_r, or_zero_r}
-use lib.Dec.{eqb, leb, ltb}
+use lib.Dec.{eqb, leb}
 use borrow.Author.Tests.{eq-eqb, ne_eqb, leb-true, leb-false, eqb-true}
 use Rattle.integer.proofs.BoolLaws.{by_cases}
 use Rattle.integer.proofs.PackLaws.{pending_law}
-use Rattle.integer.specs.Bits.{bit_of, merged_of, packed}
-use Rattle.part.specs.declared.ChannelId.{ChannelId}
+use Rattle.integer.specs.Bits.{merged_of}
 use Rattle.part.specs.declared.ChannelId.TheVariants.{Local, Remote1, Remote2}
 use Rattle.part.specs.declared.FanId.{FanId}
 use Rattle.part.specs.declared.FanId.TheVariants.{One, Two}
 use Rattle.event.specs.Kinds.{is_kind}
 use Rattle.event.specs.declared.Kind.TheVariants as kind
 use Rattle.event.specs.declared.Event.{Event}
-use Rattle.rules.specs.Registers.{Row, says, table, config1, extended, device, company, mask_at, reset_at, exists_at}
+use Rattle.rules.specs.Registers.{Row, says, table, extended, device, company, mask_at, reset_at, exists_at}
 use Rattle.rules.specs.Events.{byte_given, restarts, writes}
-use Rattle.rules.specs.Stored.{Taken, powered, counts, stored_at, diode_error, pulled_bit}
-use Rattle.rules.specs.Temperatures.{therm_asserted, channel_on, high_bit, low_bit, therm_bit}
-use Rattle.rules.specs.Duties.{duty, failures, alarm_bit, fault_bit}
+use Rattle.rules.specs.Stored.{Taken, powered, counts, stored_at}
+use Rattle.rules.specs.Temperatures.{therm_asserted}
+use Rattle.rules.specs.Duties.{duty, failures}
 use Rattle.rules.specs.Shows.{status, byte_at, value, pending, int_due, silenced, int_asserted, fault_asserted, shown}
 use Rattle.stored.specs.Stored.{cells, found, stored_in}
 use Rattle.output.specs.Outputs.{status_of, register_at, int_due_of, fault_of, shown_of}

@@ -1,5 +1,5 @@
 -- The engine's counts are those taken from the list: the run of failures, the clocks left of a spin-up, the ramp steps, the stamps.
-use Rattle.std.specs.Prelude.{ℕ, min, ◌≡◌}
+use Rattle.std.specs.Prelude.{min, ◌≡◌}
 use Rattle.part.specs.declared.FanId.{FanId}
 use Rattle.part.specs.declared.FanId.TheVariants.{One, Two}
 use Rattle.rules.specs.Replies.{History, taken}

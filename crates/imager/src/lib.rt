@@ -1,3 +1,4 @@
+#![tactic(auto)]
 // What stands after a list of events, each of them four numbers: the register image, and the panel.
 // The image is what a read of each of the 64 addresses would return, without a read's side effects.
 mod figures;
@@ -11,7 +12,7 @@ use keeper::Keeper;
 use stepper::Parsed;
 
 // The keeper that a list of events leaves; or nothing, where one of them is none.
-#[derive(Drop)]
+#[derive(Clone, Copy)]
 pub enum Ran {
     Keeper(Keeper),
     Nothing,
@@ -35,7 +36,7 @@ fn run_all(numbers: &[i32], end: usize) -> Ran
 }
 
 // The keeper after all events of a list: or 11 where the numbers are no whole events, 10 where they name a kind that is none.
-#[derive(Drop)]
+#[derive(Clone, Copy)]
 pub enum After {
     Keeper(Keeper),
     Refused(Refusal),

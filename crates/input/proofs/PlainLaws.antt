@@ -1,7 +1,7 @@
 -- An event as plain numbers is to each part of the chip what the rules say of the event. Assumes nothing.
-use Prim.Native.Nat.{ℕ, ◌%◌, ◌<◌, ◌≤◌}
-use mathlib.Core.Path.{◌≡◌, refl, sym, ap, ◌∙◌}
-use mathlib.Core.Bool.{Bool, true, false, ◌&&◌, true≢false}
+use Prim.Native.Nat.{ℕ, ◌<◌, ◌≤◌}
+use mathlib.Core.Path.{◌≡◌, refl, sym}
+use mathlib.Core.Bool.{true, true≢false}
 use native.Mathlib.Omega.{arith}
 use lib.Dec.{leb, eqb}
 use lib.IntN.{ℤ, pos, negsuc}
@@ -12,7 +12,7 @@ use Rattle.part.specs.declared.ChannelId.TheVariants.{Local, Remote1, Remote2}
 use Rattle.part.specs.declared.FanId.{FanId}
 use Rattle.part.specs.declared.FanId.TheVariants.{One, Two}
 use Rattle.event.specs.declared.Event.{Event}
-use Rattle.rules.specs.Events.{who, is_number, natural, Range, up_to, from_to, lies, channel_number, fan_number, samples, reports, measures, periods}
+use Rattle.rules.specs.Events.{who, is_number, natural, from_to, lies, channel_number, fan_number, samples, reports, measures, periods}
 use Rattle.input.specs.Inputs.{plain_of, input_of, is_sample, is_report, is_count, is_period}
 
 pub plain_is : (v : ℤ) (n : ℕ) → n < 2147483648 → eqb (plain_of v) n ≡ is_number v n

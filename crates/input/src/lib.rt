@@ -1,3 +1,4 @@
+#![tactic(auto)]
 // An event as plain numbers, and what it is to each part of the chip.
 // Every rule above asks these tests; a new kind of event is one clause here. Nothing above has a signed number.
 ghost use Rattle.std.specs.Prelude.{◌≡◌, false, cond};
@@ -11,7 +12,7 @@ use part::{ChannelId, FanId};
 
 // The kind by its place in document 01's table, and the numbers of the event: 2147483648 stands for every negative
 // one. A val is also held as a sample, where 2048 stands for every val that is none.
-#[derive(Drop)]
+#[derive(Clone, Copy)]
 pub struct Input {
     pub kind: u8,
     pub who: u32,

@@ -1,3 +1,4 @@
+#![tactic(auto)]
 // The border with signed numbers, and the bits of a byte.
 // Above this crate only `decimal` has a signed operation.
 ghost use Rattle.std.specs.Prelude.{◌≡◌, ◌≤◌};
@@ -5,7 +6,7 @@ ghost use Rattle.integer.specs.Range.{split_of, below_of, eighths_of};
 ghost use Rattle.integer.specs.Bits.{bit_of, merged_of, flag_of, weighed, packed};
 
 // A number by its sign: `Nat(n)` is n, `Neg(n)` is -(n + 1).
-#[derive(Drop)]
+#[derive(Clone, Copy)]
 pub enum Split {
     Nat(u32),
     Neg(u32),
@@ -22,7 +23,7 @@ pub fn by_sign(v: i32) -> Split
 }
 
 // A number that lies in a range, as its distance from the range's low end.
-#[derive(Drop)]
+#[derive(Clone, Copy)]
 pub enum Ranged {
     In(u16),
     Out,

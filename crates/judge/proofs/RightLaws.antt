@@ -1,5 +1,5 @@
 -- The reply in plain numbers is that of the rules. Assumes nothing.
-use Prim.Native.Nat.{ℕ, zero, suc, ◌+◌, ◌-◌, ◌%◌, ◌<◌, ◌≤◌}
+use Prim.Native.Nat.{ℕ, zero, suc, ◌+◌, ◌-◌, ◌%◌, ◌<◌}
 use mathlib.Core.Path.{◌≡◌, refl, sym, ap, ◌∙◌}
 use mathlib.Core.Bool.{Bool, true, false, cond, not, ◌&&◌, ◌||◌, true≢false}
 use mathlib.Core.List.{List, [], ◌∷◌}
@@ -15,14 +15,13 @@ use Rattle.part.specs.declared.ChannelId.TheVariants.{Remote1, Remote2}
 use Rattle.event.specs.Kinds.{is_kind, place_of, kind_of}
 use Rattle.event.specs.declared.Event.{Event}
 use Rattle.event.specs.declared.Kind.TheVariants as kind
-use Rattle.event.specs.declared.Answer.{Answer}
 use Rattle.rules.specs.Registers.{exists_at, read_only_at}
-use Rattle.rules.specs.Events.{who, arg, val, is_number, within, natural, Range, lies, Ranges, ranges, unused, carried, ranges_of}
+use Rattle.rules.specs.Events.{who, arg, val, is_number, within, natural, Range, Ranges, ranges, unused, carried, ranges_of}
 use Rattle.rules.specs.Replies as replies
 use Rattle.rules.specs.Replies.{is_register, is_odd, lowest}
 use Rattle.rules.proofs.EventLaws.{val_lies}
 use Rattle.rules.proofs.RegisterLaws.{exists_small}
-use Rattle.input.specs.Inputs.{plain_of, eighths_held, input_of, byte_in}
+use Rattle.input.specs.Inputs.{plain_of, eighths_held, input_of}
 use Rattle.input.proofs.PlainLaws.{plain_is, sample_is}
 use Rattle.judge.specs.Judged.{plain_ranges, row_of, fits_row, other_address_in, no_part_in, no_register_in, read_only_in, out_of_range_in, bad_code_in}
 use Rattle.judge.specs.Judged.{odd_local_in, broken_diode_in, lowest_in, Right}

@@ -1,3 +1,4 @@
+#![tactic(auto)]
 // The reply to an event in plain numbers: the lowest number that applies.
 // Nothing above judges a number again.
 mod rows;
@@ -11,7 +12,7 @@ use input::Input;
 use part::ChannelId;
 
 // What of the past a reply asks.
-#[derive(Drop)]
+#[derive(Clone, Copy)]
 pub struct Standing {
     pub on: bool,
     pub address: u8,
@@ -21,7 +22,7 @@ pub struct Standing {
 }
 
 // The ranges of a kind's numbers: who from low to high, the others from 0.
-#[derive(Drop)]
+#[derive(Clone, Copy)]
 pub struct PlainRanges {
     pub low: u32,
     pub high: u32,

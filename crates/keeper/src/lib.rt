@@ -1,3 +1,4 @@
+#![tactic(auto)]
 // The fan keeper: off until the first accepted power, then a device. Every event gets one answer; a refusal changes nothing.
 // A keeper goes in by value and comes back by value.
 mod blank;
@@ -13,14 +14,14 @@ use event::{Answer, Event, Kind, Refusal, Shown};
 use input::Input;
 use judge::Standing;
 
-#[derive(Drop)]
+#[derive(Clone, Copy)]
 pub enum Keeper {
     Off,
     On(Device),
 }
 
 // The next keeper, the answer, and what is shown after the event.
-#[derive(Drop)]
+#[derive(Clone, Copy)]
 pub struct Outcome {
     pub keeper: Keeper,
     pub answer: Answer,

@@ -1,3 +1,4 @@
+#![tactic(auto)]
 // Lines of a lent text, by the index at which they start.
 // A line that no newline ends, and the empty one at the end of the text, are lines that end with the text.
 ghost use Rattle.std.specs.Prelude.{◌≡◌};

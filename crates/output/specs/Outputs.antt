@@ -2,7 +2,6 @@
 use Rattle.std.specs.Prelude.{ℕ, Bool, cond, not, ◌&&◌, ◌||◌, ltb, eqb}
 use Rattle.std.specs.Int.Bits.{bit_and}
 use Rattle.integer.specs.Bits.{flag_of, packed}
-use Rattle.part.specs.declared.ChannelId.{ChannelId}
 use Rattle.part.specs.declared.ChannelId.TheVariants.{Local, Remote1, Remote2}
 use Rattle.part.specs.declared.FanId.{FanId}
 use Rattle.part.specs.declared.FanId.TheVariants.{One, Two}

@@ -1,3 +1,4 @@
+#![tactic(auto)]
 // What a chip shows: each register as a read returns it, INT, THERM, FAN_FAULT and the duties.
 // Reading here has no side effect.
 ghost use Rattle.std.specs.Prelude.{◌≡◌};

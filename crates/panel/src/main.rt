@@ -1,3 +1,4 @@
+#![tactic(auto)]
 // Prints the panel after the last event of the trace on standard input: tenths of a degree, revolutions a minute.
 // The buffer holds the longest lines, so that the program never falls silent.
 // A failed read or write is told on standard error; after a failed read there are no lines.
@@ -5,6 +6,8 @@ ghost use Rattle.std.specs.Prelude.{◌≡◌, ◌≤◌, length};
 ghost use Rattle.std.proofs.lemmas.List.Edits.{sets};
 ghost use Rattle.io.specs.Counts.{IsPrefixLen};
 ghost use Rattle.display.specs.Displayed.{displayed};
+
+use std::io::{self, Read, Write};
 
 // One byte more than a text may have.
 fn input_buffer() -> [u8; 65537]
@@ -31,28 +34,28 @@ fn printed(text: &[u8], lines: &mut [u8]) -> usize
 }
 
 // The input is read until a read brings nothing more: it ended, or the buffer is full.
-fn main() {
+fn main(rt: HostRuntime) -> io::Result<()> {
     let mut input = input_buffer();
     let mut n: usize = 0;
     let mut more: usize = 1;
+    let mut source = rt.stdin();
     while 0 < more {
-        let got = libc::read(libc::STDIN_FILENO, &mut input[n..]);
-        if got < 0 {
-            io::write_all(
-                libc::STDERR_FILENO,
-                b"panel: standard input could not be read\n",
-            );
-            return;
+        match source.read(&mut input[n..]) {
+            Ok(got) => more = got,
+            Err(error) => {
+                eprintln!(rt; "panel: standard input could not be read")?;
+                return Err(error);
+            }
         }
-        more = io::count(got, &input[n..]);
         n += more;
     }
     let mut output = line_buffer();
     let m = printed(&input[..n], &mut output);
-    if !io::write_all(libc::STDOUT_FILENO, &output[..m]) {
-        io::write_all(
-            libc::STDERR_FILENO,
-            b"panel: the panel could not be written\n",
-        );
+    match rt.stdout().write_all(&output[..m]) {
+        Ok(()) => Ok(()),
+        Err(error) => {
+            eprintln!(rt; "panel: the panel could not be written")?;
+            Err(error)
+        }
     }
 }

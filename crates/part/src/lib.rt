@@ -1,12 +1,13 @@
+#![tactic(auto)]
 // The channels and fans of the chip, by name.
-#[derive(Drop)]
+#[derive(Clone, Copy)]
 pub enum ChannelId {
     Local,
     Remote1,
     Remote2,
 }
 
-#[derive(Drop)]
+#[derive(Clone, Copy)]
 pub enum FanId {
     One,
     Two,

@@ -1,3 +1,4 @@
+#![tactic(auto)]
 // The replay: trace text in, report out, by stepping a keeper that never had power.
 // A buffer too short for the report stays as it was.
 ghost use Rattle.std.specs.Prelude.{◌≡◌, ◌≤◌, length};

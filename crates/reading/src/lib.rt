@@ -1,3 +1,4 @@
+#![tactic(auto)]
 // Readings in eighths of a degree: what a sample makes, the bytes that show them, both ways, and the two kinds of hysteresis.
 // A reading of t eighths is held as t + 1024, so that no number here is negative.
 ghost use Rattle.std.specs.Prelude.{◌≡◌, ◌+◌, ◌*◌};

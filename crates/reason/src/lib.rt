@@ -1,3 +1,4 @@
+#![tactic(auto)]
 // Why a fan of a keeper has its duty (T-03 of document 02), the first of eight reasons that holds with its numbers, and since when it turns (T-07).
 // It stands beside the keeper and changes nothing.
 ghost use Rattle.std.specs.Prelude.{◌≡◌, not, ◌&&◌, eqb};

@@ -1,3 +1,4 @@
+#![tactic(auto)]
 // Why both fans have their duties after each event of a list, each of them four numbers: eight bytes an event; and since when they turn.
 // It ends before the first four numbers that are no event, as the stepper does.
 mod aging;

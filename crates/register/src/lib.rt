@@ -1,3 +1,4 @@
+#![tactic(auto)]
 // The register table of the chip: which addresses there are, with write mask and byte after power.
 ghost use Rattle.std.specs.Prelude.{◌≡◌, ◌+◌, ◌*◌};
 ghost use Rattle.integer.specs.Bits.{flag_of};

@@ -1,3 +1,4 @@
+#![tactic(auto)]
 // The report into a lent buffer: the seven lines of an event, the ending of malformed text, the number of a refusal.
 // A text is measured first: it is refused with 11 before a byte changes, or put line by line.
 ghost use Rattle.std.specs.Prelude.{◌≡◌, ◌+◌, ◌/◌, ◌%◌, ◌≤◌, ◌<◌, length, set};

@@ -1,3 +1,4 @@
+#![tactic(auto)]
 // A trace read event by event and written again, or searched for its first wrong line: the trace reader and the trace writer
 // at work. An event has one text only, so that what is written is what was read.
 ghost use Rattle.std.specs.Prelude.{◌≡◌, length, take};

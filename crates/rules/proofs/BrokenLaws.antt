@@ -10,9 +10,6 @@ use Rattle.integer.proofs.BoolLaws.{by_cases, either}
 use Rattle.part.specs.declared.ChannelId.{ChannelId}
 use Rattle.part.specs.declared.ChannelId.TheVariants.{Local, Remote1, Remote2}
 use Rattle.part.specs.declared.FanId.{FanId}
-use Rattle.event.specs.declared.Event.TheVariants as event
-use Rattle.event.specs.declared.Transfer.TheVariants as transfer
-use Rattle.event.specs.declared.Kind.TheVariants as kind
 use Rattle.event.specs.declared.Reason.{Reason}
 use Rattle.event.specs.declared.Reason.TheVariants as reason
 use Rattle.rules.specs.Stored.{Taken}
@@ -24,7 +21,6 @@ use Rattle.rules.specs.PageDuties.{aim, clocks_left, forced, demanded}
 use Rattle.rules.specs.PageReasons.{in_order, below, Fact}
 use Rattle.rules.proofs.ReplyLaws.{samples}
 use Rattle.rules.proofs.FanWordsLaws.{demanded_is}
-use Rattle.rules.proofs.IdleLaws as idle
 use Rattle.rules.proofs.PageDutiesLaws.{demand_small, page_duties}
 use Rattle.rules.proofs.PageStaysLaws.{page_stays}
 

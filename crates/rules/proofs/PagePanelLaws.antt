@@ -1,13 +1,11 @@
 -- The page of the panel holds after every list. Assumes nothing.
 use Prim.Native.Nat.{ℕ, ◌*◌, ◌/◌, ◌<◌}
 use mathlib.Core.Path.{◌≡◌, refl, sym, ap, ◌∙◌}
-use mathlib.Core.Bool.{true, false}
 use mathlib.Core.List.{List, [], ◌∷◌}
 use native.Mathlib.Omega.{arith}
 use native.Mathlib.Nat.{mul-pos}
-use lib.IntN.{ℤ, pos}
+use lib.IntN.{ℤ}
 use lib.ListN.{get_or}
-use lib.Ieee.{Float}
 use borrow.Author.Rules.{rules}
 use borrow.Author.Tests.{ne_eqb}
 use Rattle.integer.proofs.BoolLaws.{by_cases}
@@ -15,20 +13,17 @@ use Rattle.part.specs.declared.ChannelId.{ChannelId}
 use Rattle.part.specs.declared.ChannelId.TheVariants.{Local, Remote1, Remote2}
 use Rattle.part.specs.declared.FanId.{FanId}
 use Rattle.part.specs.declared.FanId.TheVariants.{One, Two}
-use Rattle.event.specs.declared.FanSpeed.{FanSpeed}
-use Rattle.event.specs.declared.FanSpeed.TheVariants.{NotMeasured, Stalled}
 use Rattle.event.specs.declared.Panel as panel
 use Rattle.event.specs.declared.Paneled.{Paneled}
 use Rattle.event.specs.declared.Paneled.TheVariants.{Panel, Refused}
-use Rattle.event.specs.declared.Refusal.TheVariants.{NoPower}
 use Rattle.rules.specs.Registers.{speed_at, characteristics_at, exists_at}
-use Rattle.rules.specs.Stored.{Taken, powered, stored_at}
+use Rattle.rules.specs.Stored.{powered, stored_at}
 use Rattle.rules.specs.Replies.{History, taken}
 use Rattle.rules.specs.Temperatures.{temperature}
 use Rattle.rules.specs.Shows.{byte_at, value}
 use Rattle.rules.specs.Panels.{quotient_of, degrees_of, divisor_of, speed_of, speed_for, figures, panel_for, panel_number}
 use Rattle.rules.specs.Floats.{Exactly}
-use Rattle.rules.specs.PageWords.{sampled, Accepted, register, by_fan, reading_figure}
+use Rattle.rules.specs.PageWords.{sampled, Accepted, register, reading_figure}
 use Rattle.rules.specs.PageReasons.{eighths_by}
 use Rattle.rules.specs.PagePanel.{paneled, degrees_on, speed_on, count_figure, divisor_figure, Turns, PagePanel}
 use Rattle.rules.proofs.TakenLaws.{took, refused_is, accepted_is}

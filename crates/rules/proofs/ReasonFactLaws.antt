@@ -1,7 +1,7 @@
 -- After every list the reason's fact holds, no earlier one does, and no other of its place. Assumes nothing.
 use Prim.Native.Nat.{◌<◌, ◌≤◌}
 use mathlib.Core.Path.{◌≡◌, refl, sym, ap, ◌∙◌}
-use mathlib.Core.Bool.{Bool, true, false, true≢false}
+use mathlib.Core.Bool.{Bool, true≢false}
 use native.Mathlib.Omega.{arith}
 use borrow.Author.Tests.{not-true, ltb-true, eqb-true, eqb-false, lt-ltb, eq-eqb, ne_eqb}
 use Rattle.integer.proofs.BoolLaws.{both}

@@ -11,7 +11,6 @@ use Rattle.integer.proofs.BoolLaws.{by_cases}
 use Rattle.part.specs.declared.ChannelId.{ChannelId}
 use Rattle.part.specs.declared.ChannelId.TheVariants.{Local, Remote1, Remote2}
 use Rattle.part.specs.declared.FanId.{FanId}
-use Rattle.event.specs.declared.Ramp.{Ramp}
 use Rattle.event.specs.declared.Reason.{Reason}
 use Rattle.event.specs.declared.Reason.TheVariants as reason
 use Rattle.rules.specs.Registers.{config1, behaviour, exists_at}

@@ -1,7 +1,6 @@
 -- Status bits that an event leaves as they were. Assumes nothing.
-use Prim.Native.Nat.{ℕ}
 use mathlib.Core.Path.{◌≡◌, refl}
-use mathlib.Core.Bool.{Bool, true, false}
+use mathlib.Core.Bool.{false}
 use mathlib.Core.List.{◌∷◌}
 use lib.Dec.{eqb}
 use lib.IntN.{ℤ}

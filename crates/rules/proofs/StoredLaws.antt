@@ -1,8 +1,8 @@
 -- Every stored byte is one, in every list of accepted events. Assumes nothing.
-use Prim.Native.Nat.{ℕ, ◌-◌, ◌<◌, ◌≤◌}
-use mathlib.Core.Path.{◌≡◌, sym}
-use mathlib.Core.Bool.{Bool, true, false, ◌&&◌, true≢false}
-use mathlib.Core.List.{[], ◌∷◌}
+use Prim.Native.Nat.{ℕ, ◌-◌, ◌<◌}
+use mathlib.Core.Path.{◌≡◌}
+use mathlib.Core.Bool.{true, false, ◌&&◌}
+use mathlib.Core.List.{◌∷◌}
 use native.Mathlib.Omega.{arith}
 use lib.Bits.{bit_and, and_le_r, or_lt}
 use lib.Dec.{eqb}
@@ -12,7 +12,7 @@ use Rattle.part.specs.declared.FanId.TheVariants.{One, Two}
 use Rattle.event.specs.Kinds.{is_kind}
 use Rattle.event.specs.declared.Event.{Event}
 use Rattle.event.specs.declared.Kind.TheVariants as kind
-use Rattle.rules.specs.Registers.{speed_at, mask_at, reset_at}
+use Rattle.rules.specs.Registers.{speed_at, mask_at}
 use Rattle.rules.specs.Events.{val, byte_given, measures, writes, restarts}
 use Rattle.rules.specs.Stored.{Taken, counts, stored_at}
 use Rattle.rules.specs.Replies.{out_of_range}

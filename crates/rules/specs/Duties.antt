@@ -1,5 +1,5 @@
 -- Document 01, "Duty in slots", rules 5 to 7, and "Tach counts", over the accepted events: what a fan does.
-use Rattle.std.specs.Prelude.{ℕ, suc, ◌+◌, ◌-◌, min, max, Bool, true, false, cond, not, ◌&&◌, ◌||◌, List, [], ◌∷◌, ltb, eqb, get_or}
+use Rattle.std.specs.Prelude.{ℕ, suc, ◌+◌, ◌-◌, min, max, Bool, true, false, cond, not, ◌&&◌, ◌||◌, [], ◌∷◌, ltb, eqb, get_or}
 use Rattle.part.specs.declared.FanId.{FanId}
 use Rattle.event.specs.Kinds.{is_kind}
 use Rattle.event.specs.declared.Event.{Event}

@@ -1,5 +1,5 @@
 -- The page, "Duty in slots" and "Tach counts", of registers, outputs and events with their numbers.
-use Rattle.std.specs.Prelude.{ℕ, suc, ◌+◌, ◌-◌, ◌*◌, ◌/◌, ◌<◌, ◌≤◌, min, ◌≡◌, Bool, true, false, cond, not, ◌&&◌, ◌||◌, ◌∷◌, eqb, ltb, leb, ℤ, pos, negsuc, ◌-ℤ◌, ◌*ℤ◌}
+use Rattle.std.specs.Prelude.{ℕ, suc, ◌+◌, ◌-◌, ◌*◌, ◌/◌, ◌<◌, ◌≤◌, min, ◌≡◌, Bool, true, false, cond, ◌&&◌, ◌||◌, ◌∷◌, eqb, ltb, leb, ℤ, pos, negsuc, ◌-ℤ◌, ◌*ℤ◌}
 use Rattle.std.specs.Int.Signed.{lt_z}
 use Rattle.integer.specs.Bits.{bit_of, flag_of}
 use Rattle.part.specs.declared.ChannelId.{ChannelId}
@@ -13,7 +13,7 @@ use Rattle.rules.specs.Replies.{History, taken}
 use Rattle.rules.specs.Temperatures.{temperature}
 use Rattle.rules.specs.Targets.{flag, target, overridden}
 use Rattle.rules.specs.Duties.{left, spin, failures}
-use Rattle.rules.specs.PageWords.{write, read, sampled, counted, turned, tenth, Accepted, register, bit, out, duty_out, by_fan, output_bit, tach_bit}
+use Rattle.rules.specs.PageWords.{write, sampled, counted, turned, tenth, Accepted, register, bit, out, duty_out, by_fan, output_bit, tach_bit}
 use Rattle.rules.specs.PageWords.{filter_bit, alarm_status, fault_status, tmin_figure, range_figure, control, spin_up_figure, rate_figure, minimum_code}
 use Rattle.rules.specs.PageWords.{error_status, reading_figure, is_assigned}
 

@@ -1,5 +1,5 @@
 -- The page, "Events and what each carries" and "The reply numbers": each kind's replies in order, refusals, power, writes, the register image.
-use Rattle.std.specs.Prelude.{ℕ, ◌+◌, ◌*◌, ◌%◌, ◌<◌, ◌≤◌, ◌≡◌, Bool, true, false, cond, not, ◌&&◌, ◌||◌, List, [], ◌∷◌, eqb, leb, ℤ, pos, negsuc, length, get_or}
+use Rattle.std.specs.Prelude.{ℕ, ◌*◌, ◌%◌, ◌<◌, ◌≤◌, ◌≡◌, Bool, true, false, cond, not, ◌&&◌, ◌||◌, List, [], ◌∷◌, eqb, leb, ℤ, pos, negsuc, length, get_or}
 use Rattle.std.specs.Int.Signed.{le_z}
 use Rattle.integer.specs.Bits.{bit_of}
 use Rattle.part.specs.declared.ChannelId.{ChannelId}

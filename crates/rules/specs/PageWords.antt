@@ -1,5 +1,5 @@
 -- The page's own words: events with their numbers, what a user sees, and the figures of 000's tables, written down a second time.
-use Rattle.std.specs.Prelude.{ℕ, ◌+◌, ◌*◌, ◌/◌, ◌%◌, ◌<◌, min, max, ◌≡◌, Bool, true, false, cond, ◌&&◌, ◌||◌, List, [], ◌∷◌, ℤ, pos, negsuc, ◌+ℤ◌, ◌-ℤ◌, get_or}
+use Rattle.std.specs.Prelude.{ℕ, ◌*◌, ◌/◌, ◌%◌, ◌≡◌, Bool, true, false, cond, List, [], ◌∷◌, ℤ, pos, negsuc, ◌+ℤ◌, ◌-ℤ◌, get_or}
 use Rattle.std.specs.Int.Signed.{le_z}
 use Rattle.integer.specs.Bits.{bit_of}
 use Rattle.part.specs.declared.ChannelId.{ChannelId}

@@ -1,5 +1,5 @@
 -- Document 01, "Duty in slots", rules 1 to 4: run flags, demands, targets, override. A PWM period has 240 slots.
-use Rattle.std.specs.Prelude.{ℕ, ◌+◌, ◌*◌, ◌/◌, min, max, Bool, true, false, cond, ◌&&◌, ◌||◌, List, [], ◌∷◌, eqb, ℤ, pos, ◌-ℤ◌, get_or}
+use Rattle.std.specs.Prelude.{ℕ, ◌+◌, ◌*◌, ◌/◌, min, max, Bool, true, false, cond, ◌&&◌, ◌||◌, [], ◌∷◌, eqb, ℤ, pos, ◌-ℤ◌, get_or}
 use Rattle.part.specs.declared.ChannelId.{ChannelId}
 use Rattle.part.specs.declared.ChannelId.TheVariants.{Local, Remote1, Remote2}
 use Rattle.part.specs.declared.FanId.{FanId}

@@ -1,7 +1,6 @@
 -- What is printed of a text, by the keeper that it leaves, and by what it was written of. Assumes nothing.
 use Prim.Native.Nat.{ℕ, ◌≤◌, ◌<◌}
 use mathlib.Core.Path.{◌≡◌, refl, sym, ap, ◌∙◌}
-use mathlib.Core.Bool.{Bool, true, false}
 use mathlib.Core.List.{List}
 use native.Mathlib.Omega.{arith}
 use lib.Dec.{ltb}
@@ -23,7 +22,7 @@ use Rattle.runner.specs.declared.Reached.TheVariants as reached
 use Rattle.runner.specs.declared.Last.{Last}
 use Rattle.runner.specs.declared.Last.TheVariants.{Keeper, Refused}
 use Rattle.runner.specs.Reached.{reached_by, last_of, last_by}
-use Rattle.runner.specs.Lines.{whole_lines, lines_after, TraceOf, LinesOf}
+use Rattle.runner.specs.Lines.{whole_lines, lines_after, LinesOf}
 
 -- ---- what `after_last` returns
 

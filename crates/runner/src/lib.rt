@@ -1,3 +1,4 @@
+#![tactic(auto)]
 // A keeper that never had power through a whole trace text.
 // Who asks something of the keeper after the last event asks it here first.
 ghost use Rattle.std.specs.Prelude.{◌≡◌};
@@ -9,7 +10,7 @@ use keeper::Keeper;
 use trace::Reading;
 
 // The keeper that the events of a text leave; or that one of its lines is wrong or missing.
-#[derive(Drop)]
+#[derive(Clone, Copy)]
 pub enum Reached {
     Keeper(Keeper),
     Malformed,
@@ -34,7 +35,7 @@ pub fn run(text: &[u8]) -> Reached
 
 // The keeper after the last event of a text, as a program takes one: 11 for a text of more than 65,536 bytes, before any line
 // of it is judged, and then 10 for a malformed one.
-#[derive(Drop)]
+#[derive(Clone, Copy)]
 pub enum Last {
     Keeper(Keeper),
     Refused(Refusal),

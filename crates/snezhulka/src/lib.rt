@@ -1,3 +1,4 @@
+#![tactic(auto)]
 // The replay, the engine, reasons, ages, register image, panel, the rewriter and the alert search for programs in C and Rust: slices in, a number out.
 // A slice is passed as pointer and number of elements; no pointer may be null, and two of one call may not overlap:
 // size_t snezhulka_replay(const uint8_t *text, size_t text_len, uint8_t *report, size_t report_len);

@@ -1,3 +1,4 @@
+#![tactic(auto)]
 // The engine without text: events as four numbers each, outcomes as seven bytes each.
 // It ends before the first four numbers that are no event.
 ghost use Rattle.std.specs.Prelude.{◌≡◌, ◌*◌, ◌≤◌, length};
@@ -10,7 +11,7 @@ use integer::Ranged;
 use keeper::Keeper;
 
 // Four numbers as an event; or nothing, where the first is the place of no kind.
-#[derive(Drop)]
+#[derive(Clone, Copy)]
 pub enum Parsed {
     Event(Event),
     Nothing,

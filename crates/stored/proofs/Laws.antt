@@ -14,8 +14,6 @@ use Rattle.input.specs.Inputs.{is_a, is_restart}
 use Rattle.input.specs.declared.Input.{Input}
 use Rattle.stored.specs.Stored.{stored_after, stores_nothing, channel_bytes, fan_bytes, bytes, registers_after}
 use Rattle.stored.specs.Stored.{channel_registers_of, fan_registers_of, Cell, cells, found, stored_in}
-use Rattle.stored.specs.declared.ChannelRegisters.{ChannelRegisters}
-use Rattle.stored.specs.declared.FanRegisters.{FanRegisters}
 use Rattle.stored.specs.declared.Registers.{Registers}
 
 -- ---- an event that stores nothing leaves every byte

@@ -1,3 +1,4 @@
+#![tactic(auto)]
 // The bytes that the chip stores, and what an event makes of them.
 // A byte is known by its address in the register table.
 mod addresses;
@@ -17,7 +18,7 @@ use input::Input;
 use part::FanId;
 
 // The bytes of a channel's registers.
-#[derive(Drop)]
+#[derive(Clone, Copy)]
 pub struct ChannelRegisters {
     pub offset: u8,
     pub high: u8,
@@ -27,14 +28,14 @@ pub struct ChannelRegisters {
 }
 
 // The bytes of a fan's registers.
-#[derive(Drop)]
+#[derive(Clone, Copy)]
 pub struct FanRegisters {
     pub speed: u8,
     pub limit: u8,
     pub characteristics: u8,
 }
 
-#[derive(Drop)]
+#[derive(Clone, Copy)]
 pub struct Registers {
     pub config1: u8,
     pub config2: u8,
@@ -50,7 +51,7 @@ pub struct Registers {
 }
 
 // What moves a part: the event, the registers as they stand after it, the pointer as it stood before it.
-#[derive(Drop)]
+#[derive(Clone, Copy)]
 pub struct Context {
     pub input: Input,
     pub registers: Registers,

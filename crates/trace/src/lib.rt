@@ -1,3 +1,4 @@
+#![tactic(auto)]
 // The reader of trace text: four lines an event, from any index of the lent text.
 // It answers the event and where the next one starts, or the first wrong or missing line.
 ghost use Rattle.std.specs.Prelude.{◌≡◌, [], ◌&&◌, ℕ, ◌+◌, ◌*◌, ◌≤◌, ◌<◌, leb, eqb, length, get_or, take, drop};
@@ -10,14 +11,14 @@ use decimal::Decimal;
 use event::{Event, Kind, Numbers};
 use line::{line_end, same};
 
-#[derive(Drop)]
+#[derive(Clone, Copy)]
 pub enum Word {
     Known(Kind),
     Unknown,
 }
 
 // A line that names a kind, with the start of the next; or a wrong one.
-#[derive(Drop)]
+#[derive(Clone, Copy)]
 pub enum Named {
     Kind(Kind, usize),
     Wrong,
@@ -25,13 +26,13 @@ pub enum Named {
 
 // A wrong line; or one that gives a number, with the start of the next.
 // The wrong one comes first: a compiler takes what is 0 for unlikely, and puts it aside.
-#[derive(Drop)]
+#[derive(Clone, Copy)]
 pub enum Field {
     Wrong,
     Number(i32, usize),
 }
 
-#[derive(Drop)]
+#[derive(Clone, Copy)]
 pub enum Reading {
     // The event, and where the next one starts.
     Event(Event, usize),

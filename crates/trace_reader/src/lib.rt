@@ -1,3 +1,4 @@
+#![tactic(auto)]
 // A reader of trace text that holds the lent text and its place in it.
 // Thin: each function takes the struct apart; whoever has a plain slice calls `trace::event_at` and `line::line_at`.
 ghost use Rattle.std.specs.Prelude.{◌≡◌};
@@ -6,7 +7,7 @@ ghost use Rattle.trace.specs.Trace.{event_at};
 
 use trace::Reading;
 
-#[derive(Drop)]
+#[derive(Clone, Copy)]
 pub struct TraceReader<'a> {
     pub text: &'a [u8],
     pub at: usize,

@@ -1,3 +1,4 @@
+#![tactic(auto)]
 // The writer of trace text: the four lines of an event into a lent buffer.
 // What it writes, `trace` reads back as the same event.
 ghost use Rattle.std.specs.Prelude.{◌≡◌, ◌+◌, ◌≤◌, length};

@@ -7,7 +7,7 @@ use Prim.Native.Nat.{ℕ}
 use mathlib.Core.Path.{◌≡◌}
 use mathlib.Core.List.{List, [], ◌∷◌}
 use seplogic.Ra.Ura.{Ura}
-use mir.Syntax.{Name, Fn, Place, Opd as Operand, Body, seq, call, copy, place}
+use mir.Syntax.{Callee, Fn, Place, Opd as Operand, Body, seq, call, copy, place}
 use mir.Val.{Val}
 use base.Logic.{SProp, ent, emp, via, fst∗, snd∗, ex_e, id⊢}
 use base.Fml.{Share, fat}
@@ -56,7 +56,7 @@ module _ (f : Telling) {M : Type 1} (𝓤 : Ura M) where
     abbrev pub Tells : Contract 𝓤
     Tells = triple_of 𝓛 f.ended.signature (closing 𝓛 f.ended tells)
 
-    module _ {K : Type 0} {Γ : List (Item 𝓤)} {E : Env 𝓤 H} {C : Calls 𝓤 H} {Λ : Loops 𝓤 H} {q : Post 𝓤 H} {n : Name}
+    module _ {K : Type 0} {Γ : List (Item 𝓤)} {E : Env 𝓤 H} {C : Calls 𝓤 H} {Λ : Loops 𝓤 H} {q : Post 𝓤 H} {n : Callee}
         {xs : List Operand} {d : Place} {rest : Body} where
       pub calls_told : K → FmC 𝓤 H 𝓛.laws C → Triple 𝓤 (C n) Tells → (y : Tells.Ghost) → Opds K 𝓛 (raw (Tells.pre y) ∷ Γ) E xs (Tells.args y)
           → ((u : Val) (r : Res f.ended.signature y.0.0) → f.Told y.0.0 y.0.3 r

@@ -1,0 +1,4 @@
+use Rattle.demand.proofs.overridden.Goals as goal
+
+pub returns : goal.returns
+returns c = cc

@@ -1,0 +1,5 @@
+use Rattle.snezhulka.proofs.Laws.{ended}
+use Rattle.snezhulka.proofs.snezhulka_steps.Goals as goal
+
+pub returns-clause-value : goal.returns-clause-value
+returns-clause-value c = search ended
