@@ -17,9 +17,10 @@ def printed(name, text):
     except OSError as error:
         raise Failure(BUILD, f"the program {name} cannot be run: {error}") from None
     said = ran.stderr.decode(errors="backslashreplace").strip()
+    own = said.split("\n")[0]  # what the system says of it stands below
     for words, status in WORDS.items():
-        if words in said:
-            raise Failure(status, said)
+        if ran.returncode and words in own:
+            raise Failure(status, own)
     if said or ran.returncode:
         raise Failure(BUILD, f"the program {name} ended with status {ran.returncode}, and said: {said or 'nothing'}")
     return ran.stdout

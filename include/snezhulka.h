@@ -1,4 +1,4 @@
-/* The fan keeper for C: link with -lsnezhulka, which `rt staticlib snezhulka` writes to target/staticlib.
+/* The fan keeper for C: link with -lsnezhulka, which `rt lib` in crates/snezhulka writes to its out/.
    No pointer may be null, and two buffers of one call may not overlap. Nothing is kept between calls. */
 #ifndef SNEZHULKA_H
 #define SNEZHULKA_H

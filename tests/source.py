@@ -12,13 +12,29 @@ Import = collections.namedtuple("Import", "module name given")
 Definition = collections.namedtuple("Definition", "name kind line")
 
 HEAD = re.compile(r"\b(pub\b[^\n;{}]*?)?\bfn\s+(\w+)\s*(?:<[^>]*>)?\s*(?=\()")
-CLAUSE = re.compile(r"\b(requires|ensures)\s*(?=\{)|\{")
-NO_CODE = re.compile(r"""//[^\n]*|/\*.*?\*/|b"(?:\\.|[^"\\])*"|b'(?:\\.|[^'\\])'""", re.S)
+CLAUSE = re.compile(r"\b(requires|ensures)\b\*?(?:\s+\w+)?\s*(?=\{)|\{")  # a clause may have a name
+NO_CODE = re.compile(r"""//[^\n]*|/\*.*?\*/|b?"(?:\\.|[^"\\])*"|b?'(?:\\.|[^'\\])'""", re.S)
 NO_TERM = re.compile(r'\{-.*?-\}|(?<![^\s(){}.;,@"])--[^\n]*', re.S)
 USE = re.compile(rf"^ *(?:(?:unfoldable|pub|ghost) +)*use +([^\s{{}};:]+?)(?:\.\{{([^}}]*)\}})?(?: +as +({NAME}))?;? *$", re.M)
-MARKS = r"(?:(?:unfoldable|abbrev|pub|axiom) +)*"
+MARKS = r"(?:(?:pattern|unfoldable|abbrev|pub|axiom) +)*"
 SIGNATURE = re.compile(rf"^( *){MARKS}(?:(record|data) +({NAME})|(module|mutual)\b|((?:{NAME}\s+)+?)(?:\{{[^}}]*\}}\s+)?:(?:\s|$))")
 NO_NAME = {"let", "in", "where", "use", "mod", "λ", "=", "→", "←", "≡"}
+
+
+def own(module):
+    """Whether a module is of a crate of this repository, and not of the kit."""
+    first, _, rest = module.partition(".")
+    return first == "Rattle" and (CRATES / rest.split(".")[0]).is_dir()
+
+
+def specified(module):
+    """Whether a module is a specs file of ours, or has the generated types and constants of one of our crates."""
+    return own(module) and module.split(".")[2:3] == ["specs"]
+
+
+def texts(pattern):
+    """The files of the crates that are read by a check, none of what rt puts into out/."""
+    return [path for path in sorted(CRATES.glob(pattern)) if path.relative_to(CRATES).parts[1] != "out"]
 
 
 def kept_lines(found):
@@ -26,7 +42,7 @@ def kept_lines(found):
 
 
 def code(path):
-    """The text of a .rt file without comments and byte strings."""
+    """The text of a .rt file without comments and strings."""
     return NO_CODE.sub(kept_lines, path.read_text())
 
 

@@ -83,7 +83,7 @@ class Tree:
 def need_program():
     for name in PROGRAMS:
         if not (ROOT / "target" / "bin" / name).exists():
-            sys.exit(f"target/bin/{name} is missing; rt check {name} builds it")
+            sys.exit(f"target/bin/{name} is missing; tests/programs builds it")
     if not os.access(ROOT / "keeper", os.X_OK):
         sys.exit("keeper is missing, or cannot be run")
 

@@ -1,4 +1,4 @@
-//! Links the proved library, from the folder SNEZHULKA_LIB or from where `rt staticlib snezhulka` puts it.
+//! Links the proved library, from the folder SNEZHULKA_LIB or from where `rt lib` in crates/snezhulka puts it.
 
 use std::env;
 use std::path::{Path, PathBuf};
@@ -19,5 +19,5 @@ fn main() {
 
 fn default_folder() -> PathBuf {
     let package = env::var_os("CARGO_MANIFEST_DIR").expect("cargo sets CARGO_MANIFEST_DIR");
-    Path::new(&package).join("../../target/staticlib")
+    Path::new(&package).join("../../crates/snezhulka/out")
 }
