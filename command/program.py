@@ -17,10 +17,10 @@ def printed(name, text):
     except OSError as error:
         raise Failure(BUILD, f"the program {name} cannot be run: {error}") from None
     said = ran.stderr.decode(errors="backslashreplace").strip()
-    own = said.split("\n")[0]  # what the system says of it stands below
-    for words, status in WORDS.items():
-        if ran.returncode and words in own:
-            raise Failure(status, own)
+    for line in said.split("\n"):  # below the program's own words stands what the system says of it
+        for words, status in WORDS.items():
+            if words in line:
+                raise Failure(status, line)
     if said or ran.returncode:
         raise Failure(BUILD, f"the program {name} ended with status {ran.returncode}, and said: {said or 'nothing'}")
     return ran.stdout
