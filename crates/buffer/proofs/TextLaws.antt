@@ -1,19 +1,19 @@
 -- Texts in a buffer: bytes stored one behind the other, what is past the end dropped. Assumes nothing.
-use Prim.Native.Nat.{ℕ, suc, ◌+◌, ◌-◌, ◌/◌, ◌%◌, ◌≤◌, ◌<◌}
+use Prim.Native.Nat.{ℕ, suc, ◌+◌, ◌/◌, ◌%◌, ◌≤◌, ◌<◌}
 use mathlib.Core.Path.{◌≡◌, refl, sym, ap, ◌∙◌}
 use mathlib.Core.List.{List, [], ◌∷◌, ◌++◌}
 use native.Mathlib.Omega.{arith}
 use native.Mathlib.Nat.{add-zero}
 use native.Mathlib.Numerals.{add-one}
-use lib.IntN.{ℤ, pos, negsuc}
-use lib.ListN.{length, get_or, take, drop, set, length-append, length-set}
-use lib.Seq.{sets, sets-eq, length-sets, set_out, take-suc, take_all, take_at, length-take-le}
+use lib.IntN.{ℤ, pos, negsuc, nat_abs}
+use lib.Signed.{lt_z}
+use lib.ListN.{length, get_or, take, set, length-append, length-set}
+use lib.Seq.{sets, length-sets, set_out, take-suc, take_all, length-take-le}
+use mathlib.Core.Bool.{true, false}
+use borrow.Author.Tests.{ltb-true}
 use mir.Syntax.{w32, w64}
 use mir.Val.{Fits, SFits, to_z, of_z}
 use mir.ValLaws.{to_z-of_z}
-use Rattle.integer.specs.declared.Split.{Split}
-use Rattle.integer.specs.declared.Split.TheVariants.{Nat, Neg}
-use Rattle.integer.specs.Range.{split_of}
 use Rattle.decimal.specs.Decimal.{decimal_of, text_of}
 use Rattle.decimal.proofs.Laws.{decimal_small, decimal_large, small_length, decimal_length, decimal_bound}
 
@@ -62,14 +62,6 @@ module _ (name t : List ℕ) (at : ℕ) {a e : ℕ} (qa : a ≡ at + length name
   line_put d d1 d2 {d3} h1 h2 h3 =
       then d d1 d3 name (t ++ (10 ∷ [])) at a h1 qa
       (then d1 d2 d3 t (10 ∷ []) a e h2 qe h3)
-
--- a text put together aside, in z from its start on, lies within it, and is its part up to the text's end
-module _ (z t : List ℕ) {d : List ℕ} {e : ℕ} (h : d ≡ sets z 0 t) (q : e ≡ 0 + length t) (f : length t ≤ length z) where
-  pub aside_room : e ≤ length d
-  aside_room = rw (h, length-sets) (omega arith)
-
-  pub aside : take (e - 0) (drop 0 d) ≡ t
-  aside = rw (h, sets-eq t z 0 (omega arith)) (take_at t (drop (0 + length t) z) (e - 0) (omega arith))
 
 -- ---- bytes
 
@@ -124,37 +116,20 @@ cons_length d t at b e = ap length e ∙ simp (length-sets, length-set)
 
 -- ---- signed numbers
 
--- where a text is another, so is what was put
-pub end_same : {r : ℕ} (t u : List ℕ) → u ≡ t → r ≡ length t → r ≡ length u
-end_same t u q h = rw q h
+text_neg : (v : ℤ) → lt_z v (pos 0) ≡ true → text_of v ≡ 45 ∷ decimal_of (nat_abs v)
+unfolding text_of
+text_neg (pos n) t = let h : n < 0 = ltb-true n 0 t in absurd (omega arith)
+text_neg (negsuc n) t = refl
 
-pub put_same : {d1 : List ℕ} (d t u : List ℕ) (at : ℕ) → u ≡ t → d1 ≡ sets d at t → d1 ≡ sets d at u
-put_same d t u at q h = rw q h
+text_nat : (v : ℤ) → lt_z v (pos 0) ≡ false → text_of v ≡ decimal_of (nat_abs v)
+unfolding text_of
+text_nat (pos n) t = refl
+text_nat (negsuc n) t = cc
 
-text_nat : {n : ℕ} (v : ℤ) → split_of v ≡ Nat n → text_of v ≡ decimal_of n
-unfolding split_of text_of
-text_nat {n} (pos m) e = let q : m ≡ n = cc in rw q
-text_nat (negsuc m) e = cc
+-- by a test of the sign, and the distance from 0
+module _ (v : ℤ) (f : SFits w32 v) {n : ℕ} (e : n ≡ nat_abs (to_z w32 (of_z w32 v))) where
+  pub below_zero : lt_z (to_z w32 (of_z w32 v)) (pos 0) ≡ true → text_of v ≡ 45 ∷ decimal_of n
+  below_zero t = rw e (rw (to_z-of_z w32 v f) (text_neg v (rw (to_z-of_z w32 v f) at t)))
 
-text_neg : {n : ℕ} (v : ℤ) → split_of v ≡ Neg n → text_of v ≡ 45 ∷ decimal_of (n + 1)
-unfolding split_of text_of
-text_neg (pos m) e = cc
-text_neg {n} (negsuc m) e = let q : m ≡ n = cc in rw (q, add-one)
-
-neg_small : {n : ℕ} (v : ℤ) → SFits w32 v → split_of v ≡ Neg n → Fits w32 (n + 1)
-unfolding split_of
-neg_small (pos m) f e = let z : ◌≡◌ {A = ℕ} 0 1 = cc in omega arith
-neg_small {n} (negsuc m) f e = let q : m ≡ n = cc in omega (arith, f.sfits)
-
-module _ (v : ℤ) (f : SFits w32 v) {s : Split} (e : s ≡ split_of (to_z w32 (of_z w32 v))) where
-  split_is : {s1 : Split} → s ≡ s1 → split_of v ≡ s1
-  split_is q = sym (e ∙ ap split_of (to_z-of_z w32 v f)) ∙ q
-
-  pub nat_text : {n : ℕ} → s ≡ Nat n → text_of v ≡ decimal_of n
-  nat_text q = text_nat v (split_is q)
-
-  pub neg_text : {n : ℕ} → s ≡ Neg n → text_of v ≡ 45 ∷ decimal_of (n + 1)
-  neg_text q = text_neg v (split_is q)
-
-  pub neg_fits : {n : ℕ} → s ≡ Neg n → Fits w32 (n + 1)
-  neg_fits q = neg_small v f (split_is q)
+  pub not_below_zero : lt_z (to_z w32 (of_z w32 v)) (pos 0) ≡ false → text_of v ≡ decimal_of n
+  not_below_zero t = rw e (rw (to_z-of_z w32 v f) (text_nat v (rw (to_z-of_z w32 v f) at t)))

@@ -12,9 +12,9 @@ use mir.Val.{Fits}
 use borrow.Author.Tests.{le-leb, lt-leb, leb-true, leb-false}
 use Rattle.event.specs.declared.Refusal.{Refusal}
 use Rattle.event.specs.declared.Refusal.TheVariants.{WrongSize}
-use Rattle.buffer.specs.declared.Put.{Put}
-use Rattle.buffer.specs.declared.Put.TheVariants.{End, Refused}
-use Rattle.buffer.specs.Put.{put_of, held_of, end_of}
+use Rattle.std.specs.Prelude.{Result, Ok, Err}
+use Rattle.buffer.specs.Put.{put_of, held_of}
+use Rattle.std.specs.Result.{result_unwrap_or}
 
 -- ---- room
 
@@ -41,7 +41,7 @@ module _ (d t : List ℕ) (at : ℕ) {n : ℕ} {b : Bool} (k : n ≡ length t) (
   asked : b ≡ leb (at + length t) (length d)
   asked = q ∙ ap (λ (m : ℕ). leb (at + m) (length d)) k
 
-  pub put_fits : {e : ℕ} → b ≡ true → e ≡ at + length t → End e ≡ put_of d at t
+  pub put_fits : {e : ℕ} → b ≡ true → e ≡ at + length t → Ok e ≡ put_of d at t
   unfolding put_of
   put_fits h e = rw (← asked, h, e)
 
@@ -49,7 +49,7 @@ module _ (d t : List ℕ) (at : ℕ) {n : ℕ} {b : Bool} (k : n ≡ length t) (
   unfolding held_of
   held_fits h e = rw (← asked, h) e
 
-  pub put_refused : b ≡ false → Refused WrongSize ≡ put_of d at t
+  pub put_refused : b ≡ false → Err WrongSize ≡ put_of d at t
   unfolding put_of
   put_refused h = rw (← asked, h)
 
@@ -60,34 +60,34 @@ module _ (d t : List ℕ) (at : ℕ) {n : ℕ} {b : Bool} (k : n ≡ length t) (
 -- ---- where it fits
 
 module _ (d t : List ℕ) (at : ℕ) (room : at + length t ≤ length d) where
-  put_there : put_of d at t ≡ End (at + length t)
+  put_there : put_of d at t ≡ Ok (at + length t)
   unfolding put_of
   put_there = rw (le-leb (at + length t) (length d) room)
 
-  pub end_there : {p : Put} {e : ℕ} (z : ℕ) → p ≡ put_of d at t → e ≡ end_of p z → e ≡ at + length t
-  end_there z q h = h ∙ ap (λ (p : Put). end_of p z) (q ∙ put_there)
+  pub end_there : {p : Result ℕ Refusal} {e : ℕ} (z : ℕ) → p ≡ put_of d at t → e ≡ result_unwrap_or p z → e ≡ at + length t
+  end_there z q h = h ∙ ap (λ (p : Result ℕ Refusal). result_unwrap_or p z) (q ∙ put_there)
 
   pub held_there : {d' : List ℕ} → d' ≡ held_of d at t → d' ≡ sets d at t
   unfolding held_of
   held_there q = q ∙ rw (le-leb (at + length t) (length d) room)
 
-  pub never_refused : {p : Put} {r : Refusal} → p ≡ put_of d at t → p ≡ Refused r → ⊥
-  never_refused {p} {r} q h = let e : Refused r ≡ End (at + length t) = sym h ∙ q ∙ put_there in let z : ◌≡◌ {A = ℕ} 0 1 = cc in omega arith
+  pub never_refused : {p : Result ℕ Refusal} {r : Refusal} → p ≡ put_of d at t → p ≡ Err r → ⊥
+  never_refused {p} {r} q h = let e : Err r ≡ Ok (at + length t) = sym h ∙ q ∙ put_there in let z : ◌≡◌ {A = ℕ} 0 1 = cc in omega arith
 
 -- where a text is another, so are the answer and what the buffer holds
-pub put_as : {r : Put} (d s t : List ℕ) (at : ℕ) → r ≡ put_of d at s → s ≡ t → r ≡ put_of d at t
+pub put_as : {r : Result ℕ Refusal} (d s t : List ℕ) (at : ℕ) → r ≡ put_of d at s → s ≡ t → r ≡ put_of d at t
 put_as d s t at h q = rw q at h
 
 pub held_as : {d1 : List ℕ} (d s t : List ℕ) (at : ℕ) → d1 ≡ held_of d at s → s ≡ t → d1 ≡ held_of d at t
 held_as d s t at h q = rw q at h
 
 -- a text that was put stands from the index on up to where it ends, and nothing else has changed
-pub put_stands : (d t : List ℕ) (at n : ℕ) → put_of d at t ≡ End n
+pub put_stands : (d t : List ℕ) (at n : ℕ) → put_of d at t ≡ Ok n
     → (n ≡ at + length t) × (at ≤ length d) × (held_of d at t ≡ take at d ++ (t ++ drop n d))
 unfolding put_of held_of
 put_stands d t at n p = go (leb (at + length t) (length d)) refl p
   where
-    go : (b : Bool) → leb (at + length t) (length d) ≡ b → cond b (End (at + length t)) (Refused WrongSize) ≡ End n
+    go : (b : Bool) → leb (at + length t) (length d) ≡ b → cond b (Ok (at + length t)) (Err WrongSize) ≡ Ok n
         → (n ≡ at + length t) × (at ≤ length d) × (cond b (sets d at t) d ≡ take at d ++ (t ++ drop n d))
     go true h q =
         let e : n ≡ at + length t = cc in

@@ -1,40 +1,16 @@
 #![tactic(auto)]
-// Text into a lent buffer, from an index on: bytes and decimals.
+// Text into a lent buffer, from an index on: bytes and decimals; and texts that are put together aside.
 // What would stand past the end is dropped; who must not lose any asks `fits` first.
-ghost use Rattle.std.specs.Prelude.{◌≡◌, ◌+◌, ◌∷◌, leb, length, set};
+ghost use Rattle.std.specs.Prelude.{◌≡◌, ◌+◌, [], ◌∷◌, leb, length, set};
 ghost use Rattle.std.proofs.lemmas.List.Edits.{sets};
-ghost use Rattle.buffer.specs.Put.{put_of, held_of, put_number, end_of};
+ghost use Rattle.buffer.specs.Put.{put_of, held_of};
+ghost use Rattle.buffer.specs.Append.{appended};
 ghost use Rattle.decimal.specs.Decimal.{decimal_of, text_of};
 
+use arrayvec::ArrayVec;
 use event::Refusal;
-use integer::Split;
 
-// Where a text that was put ends; or that it was refused, and the buffer is as it was.
-#[derive(Clone, Copy)]
-pub enum Put {
-    End(usize),
-    Refused(Refusal),
-}
-
-// The number of the answer: 0 for a text that was put.
-pub fn number_of(put: Put) -> u8
-    ensures { result ≡ put_number put }
-{
-    match put {
-        Put::End(_) => 0,
-        Put::Refused(r) => event::refusal_number(r),
-    }
-}
-
-// Where a text that was put ends; another number for a refusal.
-pub fn end_of(put: Put, other: usize) -> usize
-    ensures { result ≡ end_of put other }
-{
-    match put {
-        Put::End(end) => end,
-        Put::Refused(_) => other,
-    }
-}
+// A text that is put answers `Result<usize, Refusal>`: where it ends; or that it was refused, and the buffer is as it was.
 
 // Whether n bytes from an index on lie within a length.
 pub fn fits(at: usize, n: usize, len: usize) -> bool
@@ -56,18 +32,17 @@ pub fn put_byte(b: u8, buf: &mut [u8], at: usize, skip: usize)
 }
 
 // So much of a text as has room.
+// Stays: byte by byte, since `copy_from_slice` makes the library for C call memcpy, which tests/embed refuses.
 pub fn put_bytes(text: &[u8], buf: &mut [u8], at: usize)
     ensures { buf.new ≡ sets buf.old at text.now }
 {
-    let mut i = 0;
-    while i < text.len() {
-        let b = text[i];
-        put_byte(b, buf, at, i);
-        i += 1;
+    for (skip, byte) in text.iter().enumerate() {
+        put_byte(*byte, buf, at, skip);
     }
 }
 
 // Puts n's decimal, and answers how many digits it has.
+// Stays: digits by hand, by calling itself: `write!` copies by memcpy, and each digit has its place behind those before it.
 pub fn put_decimal(n: u32, buf: &mut [u8], at: usize) -> usize
     ensures value { result ≡ length (decimal_of n) }
     ensures buf_after { buf.new ≡ sets buf.old at (decimal_of n) }
@@ -98,22 +73,67 @@ pub fn put_signed(v: i32, buf: &mut [u8], at: usize) -> usize
     ensures value { result ≡ length (text_of v) }
     ensures buf_after { buf.new ≡ sets buf.old at (text_of v) }
 {
-    match integer::by_sign(v) {
-        Split::Nat(n) => put_decimal(n, buf, at),
-        Split::Neg(n) => put_negative(n + 1, buf, at),
+    let distance = v.unsigned_abs();
+    if v < 0 {
+        put_negative(distance, buf, at)
+    } else {
+        put_decimal(distance, buf, at)
     }
 }
 
 // Puts a text whole, or refuses it with 11 and leaves the buffer as it was.
-pub fn put_whole(text: &[u8], buf: &mut [u8], at: usize) -> Put
+pub fn put_whole(text: &[u8], buf: &mut [u8], at: usize) -> Result<usize, Refusal>
     ensures value { result ≡ put_of buf.old at text.now }
     ensures buf_after { buf.new ≡ held_of buf.old at text.now }
 {
     let n = text.len();
     if fits(at, n, buf.len()) {
         put_bytes(text, buf, at);
-        Put::End(at + n)
+        Ok(at + n)
     } else {
-        Put::Refused(Refusal::WrongSize)
+        Err(Refusal::WrongSize)
     }
+}
+
+// ---- a text that is put together aside: what has no room in it is dropped
+
+pub type Text = ArrayVec<u8, 160>;
+
+// A byte where it has room. A test for each keeps the compiler from making a call of memcpy of the loop below.
+fn append_byte(text: &mut Text, byte: u8)
+    ensures { text.new.items ≡ appended text.old.items (byte ∷ []) }
+{
+    if !text.is_full() {
+        text.push(byte);
+    }
+}
+
+// So much of some bytes as has room behind a text.
+pub fn append(text: &mut Text, bytes: &[u8])
+    ensures { text.new.items ≡ appended text.old.items bytes.now }
+{
+    if text.is_full() {
+        return;
+    }
+    for byte in bytes {
+        append_byte(text, *byte);
+    }
+}
+
+// The decimal of a number, and of a signed one.
+// Stays: digits aside, ten and eleven bytes, since `put_decimal` and `put_signed` put into a lent buffer.
+pub fn append_decimal(text: &mut Text, n: u32)
+    ensures { text.new.items ≡ appended text.old.items (decimal_of n) }
+{
+    let mut digits = [0u8; 10];
+    let end = put_decimal(n, &mut digits, 0);
+    append(text, &digits[..end]);
+}
+
+pub fn append_signed(text: &mut Text, v: i32)
+    ensures { text.new.items ≡ appended text.old.items (text_of v) }
+{
+    let mut sign_and_digits = [0u8; 11];
+    let end = put_signed(v, &mut sign_and_digits, 0);
+    append(text, &sign_and_digits[..end]);
 }

@@ -1,9 +1,8 @@
--- A reading by the offset, a diode error by the kind of the event; an event that is none of the channel's; a channel from its parts. Assumes nothing.
+-- An event that is none of the channel's; a channel from its parts. Assumes nothing.
 use Prim.Native.Nat.{ℕ}
 use mathlib.Core.Bool.{Bool, true, false, cond, not, ◌&&◌, ◌||◌}
 use mathlib.Core.Path.{◌≡◌, refl, sym, ◌∙◌}
 use borrow.Author.Tests.{not-true}
-use lib.Dec.{eqb}
 use Rattle.integer.proofs.BoolLaws.{both, neither}
 use Rattle.part.specs.declared.ChannelId.{ChannelId}
 use Rattle.part.specs.declared.ChannelId.TheVariants.{Local, Remote1, Remote2}
@@ -14,50 +13,16 @@ use Rattle.rules.specs.Registers.{status_at}
 use Rattle.rules.specs.Temperatures.{limit_bits_in, therm_bit_in}
 use Rattle.rules.specs.Targets.{tmin_of}
 use Rattle.reading.specs.Limits.{latched_of, running_of, is_high, is_low}
-use Rattle.reading.specs.Offset.{measured_of}
-use Rattle.stored.specs.Stored.{channel_registers_of}
+use Rattle.part.specs.Each.{of_channel, map_channels}
+use Rattle.part.proofs.Laws.{channels_mapped}
 use Rattle.stored.specs.declared.ChannelRegisters.{ChannelRegisters}
 use Rattle.input.specs.Inputs.{is_a, is_sample, is_report, is_read, is_restart}
-use Rattle.input.specs.declared.Input.{Input}
 use Rattle.stored.specs.declared.Context.{Context}
 use Rattle.channel.specs.Channels.{sampled_in, reading_after, flag_at_sample, latch_after, flag_after, channel_on_in, clears_bit, status_bit_after}
-use Rattle.channel.specs.Channels.{high_bit_after, low_bit_after, therm_bit_after, error_in, error_after, passes_by, channel_kept, channel_after}
+use Rattle.channel.specs.Channels.{high_bit_after, low_bit_after, therm_bit_after, error_after, passes_by, channel_kept, channel_after}
 use Rattle.channel.specs.Channels.{reads_status, untouched_in, channels_after}
 use Rattle.channel.specs.declared.Channel.{Channel}
-use Rattle.channel.specs.declared.Channels.{Channels}
-
-pub sampled_is : (c : ChannelId) (m : Context) {l : ChannelRegisters} {t : ℕ}
-    → l ≡ channel_registers_of m.registers c → t ≡ measured_of c l.offset m.input.sample → t ≡ sampled_in c m
-unfolding sampled_in
-sampled_is c m el et = et ∙ rw el
-
-module _ (c : ChannelId) (m : Context) (was : ℕ) {f : Bool} (ef : f ≡ is_restart m.input) where
-  pub reading_restart : f ≡ true → 1024 ≡ reading_after c m was
-  unfolding reading_after
-  reading_restart t = rw (sym ef ∙ t)
-
-  module _ (nf : f ≡ false) {s : Bool} (es : s ≡ is_sample c m.input) where
-    pub reading_sampled : {t : ℕ} → s ≡ true → t ≡ sampled_in c m → t ≡ reading_after c m was
-    unfolding reading_after
-    reading_sampled t e = rw (sym ef ∙ nf, sym es ∙ t) e
-
-    pub reading_kept : s ≡ false → was ≡ reading_after c m was
-    unfolding reading_after
-    reading_kept t = rw (sym ef ∙ nf, sym es ∙ t)
-
-module _ (c : ChannelId) (i : Input) (was : Bool) {p : Bool} (ep : p ≡ is_a kind.Power i) where
-  pub error_powered : {b : Bool} → p ≡ true → b ≡ error_in c i → b ≡ error_after c i was
-  unfolding error_after
-  error_powered t e = rw (sym ep ∙ t) e
-
-  module _ (np : p ≡ false) {r : Bool} (er : r ≡ is_report c i) where
-    pub error_reported : r ≡ true → eqb i.val 1 ≡ error_after c i was
-    unfolding error_after
-    error_reported t = rw (sym ep ∙ np, sym er ∙ t)
-
-    pub error_kept : r ≡ false → was ≡ error_after c i was
-    unfolding error_after
-    error_kept t = rw (sym ep ∙ np, sym er ∙ t)
+use Rattle.part.specs.declared.PerChannel.{PerChannel}
 
 -- ---- an event that is none of the channel's
 
@@ -69,7 +34,8 @@ unmarked false false = refl
 
 module _ (c : ChannelId) (m : Context) (was : Channel) where
   pub kept_is : {b on : Bool} {k : Channel} → b ≡ passes_by c m.input → b ≡ true → on ≡ channel_on_in c m → k ≡ channel_kept on was → k ≡ channel_after c m was
-  unfolding channel_after reading_after flag_at_sample latch_after flag_after clears_bit status_bit_after high_bit_after low_bit_after therm_bit_after error_after
+  unfolding channel_after reading_after flag_at_sample latch_after flag_after clears_bit status_bit_after high_bit_after low_bit_after therm_bit_after
+      error_after
   kept_is {on = on} e t eo q =
       let i = m.input in
       let a = neither (is_restart i) _ (not-true (is_restart i || (is_sample c i || (is_report c i || is_a kind.Read i))) (sym e ∙ t)) in
@@ -81,7 +47,7 @@ module _ (c : ChannelId) (m : Context) (was : Channel) where
   -- ---- from the parts
 
   pub moved_is : {l : ChannelRegisters} {f g : FanId} {t r tm : ℕ} {la fl hi lo th er ms mr mh ml : Bool}
-      → l ≡ channel_registers_of m.registers c → t ≡ sampled_in c m → f ≡ limit_bits_in c → g ≡ therm_bit_in c → tm ≡ tmin_of l.control
+      → l ≡ of_channel c m.registers.channels → t ≡ sampled_in c m → f ≡ limit_bits_in c → g ≡ therm_bit_in c → tm ≡ tmin_of l.control
       → ms ≡ latched_of was.latch l.therm t → la ≡ flag_at_sample c m ms was.latch
       → mr ≡ running_of was.flag tm t → fl ≡ flag_at_sample c m mr was.flag
       → mh ≡ is_high l.high t → hi ≡ status_bit_after c f m mh was.high
@@ -92,11 +58,10 @@ module _ (c : ChannelId) (m : Context) (was : Channel) where
   unfolding channel_after latch_after flag_after high_bit_after low_bit_after therm_bit_after
   moved_is el et ef eg em es ea er ep eh ei eo ew ex ey ez = rw (ey, ep, ei, ew, ex, ez, ea, es, er, eh, eo, em, ef, eg, el, et)
 
-pub all_three : (m : Context) (cs : Channels) {l r1 r2 : Channel}
-    → l ≡ channel_after Local m cs.local → r1 ≡ channel_after Remote1 m cs.remote1 → r2 ≡ channel_after Remote2 m cs.remote2
-    → ◌≡◌ {A = Channels} (record { local = l; remote1 = r1; remote2 = r2 }) (channels_after m cs)
+pub all_three : (m : Context) (cs : PerChannel Channel) {r : PerChannel Channel} → r ≡ map_channels (λ c was. channel_after c m was) cs
+    → r ≡ channels_after m cs
 unfolding channels_after
-all_three m cs e1 e2 e3 = rw (e1, e2, e3)
+all_three m cs e = e
 
 -- ---- an event that is none of any channel's
 
@@ -108,12 +73,13 @@ module _
   unread Two = (neither (is_read (status_at One) m.pointer m.input) _ reads).1
 
   kept : (c : ChannelId) (was : Channel) → channel_on_in c m ≡ true → was ≡ channel_after c m was
-  unfolding channel_after reading_after flag_at_sample latch_after flag_after clears_bit status_bit_after high_bit_after low_bit_after therm_bit_after error_after
+  unfolding channel_after reading_after flag_at_sample latch_after flag_after clears_bit status_bit_after high_bit_after low_bit_after therm_bit_after
+      error_after
   kept c was on =
       let p = neither (is_a kind.Power m.input) _ restarts in
       rw (restarts, samples, reports, p.0, on, unread (limit_bits_in c), unread (therm_bit_in c))
 
-pub left_alone : (m : Context) (cs : Channels) {b : Bool} → b ≡ untouched_in m → b ≡ true → cs ≡ channels_after m cs
+pub left_alone : (m : Context) (cs : PerChannel Channel) {b : Bool} → b ≡ untouched_in m → b ≡ true → cs ≡ channels_after m cs
 left_alone m cs e t =
     let i = m.input in
     let h = both (not (is_restart i || (is_a kind.Sample i || (is_a kind.Diode i || reads_status m)))) _ (sym e ∙ t) in
@@ -123,4 +89,5 @@ left_alone m cs e t =
     let on = both (channel_on_in Local m) _ h.1 in
     let on2 = both (channel_on_in Remote1 m) (channel_on_in Remote2 m) on.1 in
     let stays = kept m n.0 k.0 r.0 r.1 in
-    all_three m cs (stays Local cs.local on.0) (stays Remote1 cs.remote1 on2.0) (stays Remote2 cs.remote2 on2.1)
+    all_three m cs (channels_mapped (λ c was. channel_after c m was) cs (stays Local cs.local on.0) (stays Remote1 cs.remote1 on2.0)
+    (stays Remote2 cs.remote2 on2.1))

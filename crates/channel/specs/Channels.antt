@@ -13,16 +13,16 @@ use Rattle.reading.specs.Limits.{latched_of, running_of, is_high, is_low}
 use Rattle.reading.specs.Offset.{measured_of}
 use Rattle.input.specs.declared.Input.{Input}
 use Rattle.input.specs.Inputs.{is_a, is_sample, is_report, is_read, is_restart, bit_after}
-use Rattle.stored.specs.Stored.{channel_registers_of}
+use Rattle.part.specs.Each.{of_channel, map_channels}
 use Rattle.stored.specs.declared.Context.{Context}
 use Rattle.channel.specs.declared.Channel.{Channel}
-use Rattle.channel.specs.declared.Channels.{Channels}
+use Rattle.part.specs.declared.PerChannel.{PerChannel}
 
 -- m is what moves a channel: the event, the registers as they stand after it, the pointer as it stood before it
 
 -- T-01: the reading that a sample makes, by the channel's offset register as it stands
 unfoldable pub sampled_in : ChannelId → Context → ℕ
-sampled_in c m = measured_of c (channel_registers_of m.registers c).offset m.input.sample
+sampled_in c m = measured_of c (of_channel c m.registers.channels).offset m.input.sample
 
 -- 1: the last reading; 0, held as 1024, after power or reset
 unfoldable pub reading_after : ChannelId → Context → ℕ → ℕ
@@ -34,11 +34,11 @@ flag_at_sample c m next was = cond (is_restart m.input) false (cond (is_sample c
 
 -- 2: the latch, by the channel's THERM limit
 unfoldable pub latch_after : ChannelId → Context → Bool → Bool
-latch_after c m was = flag_at_sample c m (latched_of was (channel_registers_of m.registers c).therm (sampled_in c m)) was
+latch_after c m was = flag_at_sample c m (latched_of was (of_channel c m.registers.channels).therm (sampled_in c m)) was
 
 -- duty 1: the run flag, by the channel's Tmin
 unfoldable pub flag_after : ChannelId → Context → Bool → Bool
-flag_after c m was = flag_at_sample c m (running_of was (tmin_of (channel_registers_of m.registers c).control) (sampled_in c m)) was
+flag_after c m was = flag_at_sample c m (running_of was (tmin_of (of_channel c m.registers.channels).control) (sampled_in c m)) was
 
 abbrev pub channel_on_in : ChannelId → Context → Bool
 channel_on_in c m = channel_enabled c m.registers.config2
@@ -53,10 +53,10 @@ status_bit_after c f m met was = bit_after (is_sample c m.input && (channel_on_i
 
 -- 3: the high and low bits; the THERM bit at a latch going from off to on
 unfoldable pub high_bit_after : ChannelId → Context → Bool → Bool
-high_bit_after c m was = status_bit_after c (limit_bits_in c) m (is_high (channel_registers_of m.registers c).high (sampled_in c m)) was
+high_bit_after c m was = status_bit_after c (limit_bits_in c) m (is_high (of_channel c m.registers.channels).high (sampled_in c m)) was
 
 unfoldable pub low_bit_after : ChannelId → Context → Bool → Bool
-low_bit_after c m was = status_bit_after c (limit_bits_in c) m (is_low (channel_registers_of m.registers c).low (sampled_in c m)) was
+low_bit_after c m was = status_bit_after c (limit_bits_in c) m (is_low (of_channel c m.registers.channels).low (sampled_in c m)) was
 
 unfoldable pub therm_bit_after : ChannelId → Context → (before after : Bool) → Bool → Bool
 therm_bit_after c m before after was = status_bit_after c (therm_bit_in c) m (not before && after) was
@@ -109,14 +109,9 @@ untouched_in m =
     && (channel_on_in Local m && (channel_on_in Remote1 m && channel_on_in Remote2 m))
 
 -- the three channels
-unfoldable pub channels_after : Context → Channels → Channels
-channels_after m cs =
-    record {
-      local = channel_after Local m cs.local;
-      remote1 = channel_after Remote1 m cs.remote1;
-      remote2 = channel_after Remote2 m cs.remote2;
-    }
+unfoldable pub channels_after : Context → PerChannel Channel → PerChannel Channel
+channels_after m cs = map_channels (λ c was. channel_after c m was) cs
 
 -- 2: THERM is asserted while a latch is on
-abbrev pub therm_of : Channels → Bool
+abbrev pub therm_of : PerChannel Channel → Bool
 therm_of cs = cs.local.latch || (cs.remote1.latch || cs.remote2.latch)

@@ -3,14 +3,14 @@
 // One function serves all three.
 mod status;
 
-ghost use Rattle.std.specs.Prelude.{◌≡◌};
+ghost use Rattle.std.specs.Prelude.{◌≡◌, false};
 ghost use Rattle.rules.specs.Targets.{tmin_of};
 ghost use Rattle.channel.specs.Channels.{sampled_in, reading_after, flag_at_sample, channel_on_in, error_in, error_after, passes_by};
 ghost use Rattle.channel.specs.Channels.{channel_kept, channel_after, reads_status, untouched_in, channels_after, therm_of};
 
 use event::Kind;
 use input::Input;
-use part::{ChannelId, FanId};
+use part::{ChannelId, FanId, PerChannel};
 use stored::Context;
 
 // The last reading, the THERM latch and the run flag; then the high, low and THERM status bits, and the diode error.
@@ -25,21 +25,33 @@ pub struct Channel {
     pub error: bool,
 }
 
-#[derive(Clone, Copy)]
-pub struct Channels {
-    pub local: Channel,
-    pub remote1: Channel,
-    pub remote2: Channel,
+// A channel that never had power: its reading is 0, held as 1024.
+impl Default for Channel {
+    ghost is_default = { λ c. c ≡ record { reading = 1024; latch = false; flag = false; high = false; low = false; therm = false; error = false } };
+
+    fn default() -> Channel {
+        Channel {
+            reading: 1024,
+            latch: false,
+            flag: false,
+            high: false,
+            low: false,
+            therm: false,
+            error: false,
+        }
+    }
 }
 
 // The reading that a sample makes, by the channel's offset register as it stands.
+#[tactic(auto, unfolding(crate::specs::Channels::sampled_in))]
 fn sampled(c: ChannelId, m: Context) -> u16
     ensures { result ≡ sampled_in c m }
 {
-    let l = stored::channel_registers_of(m.registers, c);
+    let l = m.registers.channels.get(c);
     reading::measured(c, l.offset, m.input.sample)
 }
 
+#[tactic(auto, unfolding(crate::specs::Channels::reading_after))]
 fn reading_after(c: ChannelId, m: Context, was: u16) -> u16
     ensures { result ≡ reading_after c m was }
 {
@@ -53,6 +65,7 @@ fn reading_after(c: ChannelId, m: Context, was: u16) -> u16
 }
 
 // A flag that a sample of the channel moves.
+#[tactic(auto, unfolding(crate::specs::Channels::flag_at_sample))]
 fn flag_at_sample(c: ChannelId, m: Context, next: bool, was: bool) -> bool
     ensures { result ≡ flag_at_sample c m next was }
 {
@@ -78,6 +91,7 @@ fn is_on(c: ChannelId, m: Context) -> bool
 }
 
 // The diode error that power brings; it stays until the next power or report on the diode.
+// Stays: each channel's is another formula, so a table by channel would be no plainer.
 fn error_in(c: ChannelId, i: Input) -> bool
     ensures { result ≡ error_in c i }
 {
@@ -88,6 +102,7 @@ fn error_in(c: ChannelId, i: Input) -> bool
     }
 }
 
+#[tactic(auto, unfolding(crate::specs::Channels::error_after))]
 fn error_after(c: ChannelId, i: Input, was: bool) -> bool
     ensures { result ≡ error_after c i was }
 {
@@ -106,7 +121,9 @@ fn passes_by(c: ChannelId, i: Input) -> bool
     ensures { result ≡ passes_by c i }
 {
     !(input::is_restart(i)
-        | (input::is_sample(c, i) | (input::is_report(c, i) | input::is_a(Kind::Read, i))))
+        | input::is_sample(c, i)
+        | input::is_report(c, i)
+        | input::is_a(Kind::Read, i))
 }
 
 // The channel after such an event: at most its enable bit has become 0.
@@ -114,20 +131,17 @@ fn channel_kept(on: bool, was: Channel) -> Channel
     ensures { result ≡ channel_kept on was }
 {
     Channel {
-        reading: was.reading,
-        latch: was.latch,
-        flag: was.flag,
         high: was.high & on,
         low: was.low & on,
         therm: was.therm & on,
-        error: was.error,
+        ..was
     }
 }
 
 fn channel_moved(c: ChannelId, m: Context, was: Channel) -> Channel
     ensures { result ≡ channel_after c m was }
 {
-    let l = stored::channel_registers_of(m.registers, c);
+    let l = m.registers.channels.get(c);
     let t = sampled(c, m);
     let latch = flag_at_sample(c, m, reading::latched(was.latch, l.therm, t), was.latch);
     let runs = reading::running(was.flag, tmin(l.control), t);
@@ -167,29 +181,24 @@ fn untouched(m: Context) -> bool
     ensures { result ≡ untouched_in m }
 {
     let none = !(input::is_restart(m.input)
-        | (input::is_a(Kind::Sample, m.input)
-            | (input::is_a(Kind::Diode, m.input) | reads_status(m))));
-    none & (is_on(ChannelId::Local, m)
-        & (is_on(ChannelId::Remote1, m) & is_on(ChannelId::Remote2, m)))
+        | matches!(m.input.kind, Kind::Sample | Kind::Diode)
+        | reads_status(m));
+    none & is_on(ChannelId::Local, m) & is_on(ChannelId::Remote1, m) & is_on(ChannelId::Remote2, m)
 }
 
 // The three channels.
-pub fn channels_after(m: Context, cs: Channels) -> Channels
+pub fn channels_after(m: Context, cs: PerChannel<Channel>) -> PerChannel<Channel>
     ensures { result ≡ channels_after m cs }
 {
     if untouched(m) {
         return cs;
     }
-    Channels {
-        local: channel_after(ChannelId::Local, m, cs.local),
-        remote1: channel_after(ChannelId::Remote1, m, cs.remote1),
-        remote2: channel_after(ChannelId::Remote2, m, cs.remote2),
-    }
+    cs.map(|c, was| channel_after(c, m, was))
 }
 
 // Whether THERM is asserted.
-pub fn therm(cs: Channels) -> bool
+pub fn therm(cs: PerChannel<Channel>) -> bool
     ensures { result ≡ therm_of cs }
 {
-    cs.local.latch | (cs.remote1.latch | cs.remote2.latch)
+    cs.local.latch | cs.remote1.latch | cs.remote2.latch
 }

@@ -1,6 +1,7 @@
 -- The chip after an accepted event: each part by its rule, in the order in which they depend on each other.
 use Rattle.std.specs.Prelude.{ℕ, ◌%◌, Bool, false, cond, not, ◌&&◌, ◌||◌, eqb}
-use Rattle.part.specs.declared.FanId.TheVariants.{One, Two}
+use Rattle.part.specs.declared.FanId.TheVariants.{Two}
+use Rattle.part.specs.Each.{map_fans}
 use Rattle.event.specs.declared.Kind.TheVariants as kind
 use Rattle.rules.specs.Registers.{status_at}
 use Rattle.input.specs.declared.Input.{Input}
@@ -9,7 +10,8 @@ use Rattle.stored.specs.Stored.{registers_after}
 use Rattle.stored.specs.declared.Registers.{Registers}
 use Rattle.stored.specs.declared.Context.{Context}
 use Rattle.channel.specs.Channels.{channels_after}
-use Rattle.channel.specs.declared.Channels.{Channels}
+use Rattle.part.specs.declared.PerChannel.{PerChannel}
+use Rattle.channel.specs.declared.Channel.{Channel}
 use Rattle.fan.specs.Fans.{fan_after}
 use Rattle.chip.specs.declared.Port.{Port}
 use Rattle.chip.specs.declared.Chip.{Chip}
@@ -41,14 +43,13 @@ port_after i p =
     }
 
 -- port and channels as they stand after the event, the fans as they stood before it
-unfoldable pub chip_with : Port → Context → Channels → Chip → Chip
+unfoldable pub chip_with : Port → Context → PerChannel Channel → Chip → Chip
 chip_with port m cs k =
     record {
       port = port;
       registers = m.registers;
       channels = cs;
-      fan1 = fan_after One port.pin_low m cs k.fan1;
-      fan2 = fan_after Two port.pin_low m cs k.fan2;
+      fans = map_fans (λ f was. fan_after f port.pin_low m cs was) k.fans;
     }
 
 -- under the registers as they stand after the event; the pointer as it stood before it

@@ -2,17 +2,17 @@
 // The state of a chip that has power, and what an accepted event makes of it.
 // Each part moves by its own rule, under the registers as they stand after the event.
 ghost use Rattle.std.specs.Prelude.{◌≡◌};
-ghost use Rattle.chip.specs.Chips.{address_after, pin_low_after, pointer_after, pulled_after, port_after, chip_with, context_of, chip_under, chip_after};
+ghost use Rattle.chip.specs.Chips.{address_after, pin_low_after, pointer_after, pulled_after, port_after, context_of, chip_after};
 
-use channel::Channels;
+use channel::Channel;
 use event::Kind;
 use fan::Fan;
 use input::Input;
-use part::FanId;
+use part::{FanId, PerChannel, PerFan};
 use stored::{Context, Registers};
 
 // What is neither register, channel nor fan: bus address and pointer, pin level, and the pin's status bit.
-#[derive(Clone, Copy)]
+#[derive(Clone, Copy, Default)]
 pub struct Port {
     pub address: u8,
     pub pointer: u8,
@@ -20,13 +20,12 @@ pub struct Port {
     pub pulled: bool,
 }
 
-#[derive(Clone, Copy)]
+#[derive(Clone, Copy, Default)]
 pub struct Chip {
     pub port: Port,
     pub registers: Registers,
-    pub channels: Channels,
-    pub fan1: Fan,
-    pub fan2: Fan,
+    pub channels: PerChannel<Channel>,
+    pub fans: PerFan<Fan>,
 }
 
 fn address_after(i: Input, was: u8) -> u8
@@ -56,7 +55,7 @@ fn pointer_after(i: Input, was: u8) -> u8
     if input::is_a(Kind::Power, i) {
         return 0;
     }
-    if input::is_a(Kind::Write, i) | input::is_a(Kind::Point, i) {
+    if matches!(i.kind, Kind::Write | Kind::Point) {
         (i.arg % 256) as u8
     } else {
         was
@@ -66,11 +65,12 @@ fn pointer_after(i: Input, was: u8) -> u8
 fn pulled_after(pin_low: bool, pointer: u8, i: Input, was: bool) -> bool
     ensures { result ≡ pulled_after pin_low pointer i was }
 {
-    let sets = input::is_a(Kind::Pin, i) & ((i.val == 0) & !pin_low);
+    let sets = input::is_a(Kind::Pin, i) & (i.val == 0) & !pin_low;
     let clears = input::is_restart(i) | input::is_read(stored::status_at(FanId::Two), pointer, i);
     input::bit_after(sets, clears, was)
 }
 
+#[tactic(auto, unfolding(crate::specs::Chips::port_after))]
 fn port_after(i: Input, p: Port) -> Port
     ensures { result ≡ port_after i p }
 {
@@ -82,46 +82,31 @@ fn port_after(i: Input, p: Port) -> Port
     }
 }
 
-// Port and channels as they stand after the event, the fans as they stood before it.
-fn chip_with(port: Port, m: Context, cs: Channels, k: Chip) -> Chip
-    ensures { result ≡ chip_with port m cs k }
-{
-    let registers = m.registers;
-    let fan1 = fan::fan_after(FanId::One, port.pin_low, m, cs, k.fan1);
-    let fan2 = fan::fan_after(FanId::Two, port.pin_low, m, cs, k.fan2);
-    Chip {
-        port,
-        registers,
-        channels: cs,
-        fan1,
-        fan2,
-    }
-}
-
-fn context(i: Input, s: Registers, k: Chip) -> Context
-    ensures { result ≡ context_of i s k }
+// What moves a part of the chip.
+fn context(i: Input, k: &Chip) -> Context
+    ensures { result ≡ context_of i k.now.registers k.now }
 {
     Context {
         input: i,
-        registers: s,
+        registers: k.registers,
         pointer: k.port.pointer,
     }
 }
 
-fn chip_under(m: Context, k: Chip) -> Chip
-    ensures { result ≡ chip_under m k }
-{
-    let cs = channel::channels_after(m, k.channels);
-    chip_with(port_after(m.input, k.port), m, cs, k)
-}
-
-// The chip after an accepted event. Most events store nothing, and then no register is copied byte by byte.
-pub fn chip_after(i: Input, k: Chip) -> Chip
-    ensures { result ≡ chip_after i k }
-{
-    if stored::stores_nothing(i) {
-        chip_under(context(i, k.registers, k), k)
-    } else {
-        chip_under(context(i, stored::registers_after(i, k.registers), k), k)
+impl Chip {
+    // An accepted event: the fans move by port and channels as they stand after it.
+    #[tactic(auto, unfolding(crate::specs::Chips::chip_with, crate::specs::Chips::chip_under, crate::specs::Chips::chip_after))]
+    pub fn accept(&mut self, i: Input)
+        ensures { self.new ≡ chip_after i self.old }
+    {
+        self.registers.accept(i);
+        let m = context(i, self);
+        self.port = port_after(i, self.port);
+        self.channels = channel::channels_after(m, self.channels);
+        let pin_low = self.port.pin_low;
+        let cs = self.channels;
+        self.fans = self
+            .fans
+            .map(|f, was| fan::fan_after(f, pin_low, m, cs, was));
     }
 }

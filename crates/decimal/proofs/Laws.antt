@@ -4,7 +4,7 @@ use mathlib.Core.Path.{◌≡◌, refl, ap}
 use mathlib.Core.List.{List, [], ◌∷◌, ◌++◌}
 use mathlib.Core.Bool.{Bool, true, false, cond}
 use native.Mathlib.Omega.{arith}
-use mir.Syntax.{w8, w32}
+use mir.Syntax.{w32}
 use mir.Val.{Fits, SFits}
 use lib.IntN.{ℤ, pos, negsuc}
 use lib.Dec.{ltb}
@@ -64,10 +64,7 @@ decimal_width (suc k) n h = go (ltb n 10) refl (decimal_width k (n / 10) (omega 
     go true q ih = omega (arith, small_length n (ltb-true n 10 q))
     go false q ih = omega (arith, decimal_length n (ltb-false n 10 q))
 
--- of a byte, of a number of 32 bits, and of a signed one
-pub byte_width : (n : ℕ) → Fits w8 n → length (decimal_of n) ≤ 3
-byte_width n f = decimal_width 2 n (omega arith)
-
+-- of a number of 32 bits, and of a signed one
 pub word_width : (n : ℕ) → Fits w32 n → length (decimal_of n) ≤ 10
 word_width n f = decimal_width 9 n (omega arith)
 

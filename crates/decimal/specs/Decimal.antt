@@ -1,54 +1,42 @@
 -- Document 01, "Trace text and report": decimals that fit a signed 32-bit number, without plus, leading zero or -0.
-use Rattle.std.specs.Prelude.{ℕ, zero, suc, ◌+◌, ◌-◌, ◌*◌, ◌/◌, ◌%◌, List, [], ◌∷◌, ◌++◌, cond, ◌&&◌, ltb, leb, eqb, ℤ, pos, negsuc}
-use Rattle.integer.specs.declared.Split.{Split}
-use Rattle.integer.specs.declared.Split.TheVariants.{Nat, Neg}
-use Rattle.decimal.specs.declared.Magnitude.{Magnitude}
-use Rattle.decimal.specs.declared.Magnitude.TheVariants.{Value, Bad}
-use Rattle.decimal.specs.declared.Decimal.{Decimal}
-use Rattle.decimal.specs.declared.Decimal.TheVariants.{Number, Malformed}
+use Rattle.std.specs.Prelude.{ℕ, zero, suc, ◌+◌, ◌-◌, ◌*◌, ◌/◌, ◌%◌, List, [], ◌∷◌, ◌++◌, cond, ◌&&◌, ltb, leb, eqb, ℤ, pos, negsuc, Option, Some, None}
 
 -- ---- reading
 
 -- the value of the digits of a list, after digits of value v; Bad where a byte is no digit
-unfoldable pub digits_from : ℕ → List ℕ → Magnitude
-digits_from v [] = Value v
-digits_from v (b ∷ bs) = cond (leb 48 b && leb b 57) (digits_from (v * 10 + (b - 48)) bs) Bad
+unfoldable pub digits_from : ℕ → List ℕ → Option ℕ
+digits_from v [] = Some v
+digits_from v (b ∷ bs) = cond (leb 48 b && leb b 57) (digits_from (v * 10 + (b - 48)) bs) None
 
 -- 0 where nothing follows its zero
-abbrev pub alone : List ℕ → Magnitude
-alone [] = Value 0
-alone (b ∷ bs) = Bad
+abbrev pub alone : List ℕ → Option ℕ
+alone [] = Some 0
+alone (b ∷ bs) = None
 
 -- an unsigned decimal without a leading zero
-unfoldable pub unsigned_of : List ℕ → Magnitude
-unsigned_of [] = Bad
+unfoldable pub unsigned_of : List ℕ → Option ℕ
+unsigned_of [] = None
 unsigned_of (b ∷ bs) = cond (eqb b 48) (alone bs) (digits_from 0 (b ∷ bs))
 
--- the number of a sign and a distance, where it fits a signed 32-bit number
-unfoldable pub signed_of : Split → Decimal
-signed_of (Nat n) = cond (ltb n 2147483648) (Number (pos n)) Malformed
-signed_of (Neg n) = cond (ltb n 2147483648) (Number (negsuc n)) Malformed
+-- a magnitude as a number, and negated, where it fits a signed 32-bit number; there is no -0
+abbrev pub positive : Option ℕ → Option ℤ
+positive (Some v) = cond (ltb v 2147483648) (Some (pos v)) None
+positive None = None
 
--- a magnitude as a number, and negated; there is no -0
-abbrev pub positive : Magnitude → Decimal
-positive (Value v) = signed_of (Nat v)
-positive Bad = Malformed
-
-abbrev pub negative : Magnitude → Decimal
-negative (Value zero) = Malformed
-negative (Value (suc v)) = signed_of (Neg v)
-negative Bad = Malformed
+abbrev pub negative : Option ℕ → Option ℤ
+negative (Some zero) = None
+negative (Some (suc v)) = cond (ltb v 2147483648) (Some (negsuc v)) None
+negative None = None
 
 -- the number that a list of bytes is the decimal of
-unfoldable pub parse_of : List ℕ → Decimal
-unfolding signed_of
-parse_of [] = Malformed
+unfoldable pub parse_of : List ℕ → Option ℤ
+parse_of [] = None
 parse_of (b ∷ bs) = cond (eqb b 45) (negative (unsigned_of bs)) (positive (unsigned_of (b ∷ bs)))
 
 -- how far the reader of magnitudes counts: no number of 32 bits is further from 0
-unfoldable pub capped : Magnitude → Magnitude
-capped (Value v) = cond (leb v 2147483648) (Value v) Bad
-capped Bad = Bad
+unfoldable pub capped : Option ℕ → Option ℕ
+capped (Some v) = cond (leb v 2147483648) (Some v) None
+capped None = None
 
 -- ---- writing
 

@@ -1,114 +1,54 @@
 #![tactic(auto)]
 // Canonical decimals: no plus sign, no leading zero, no -0, within a signed 32-bit number.
 // This crate reads them; `buffer` writes them.
-ghost use Rattle.std.specs.Prelude.{◌≡◌};
-ghost use Rattle.decimal.specs.Decimal.{digits_from, capped, unsigned_of, signed_of, parse_of};
-
-use integer::Split;
-
-// The value of a run of digits.
-#[derive(Clone, Copy)]
-pub enum Magnitude {
-    Value(u64),
-    Bad,
-}
-
-#[derive(Clone, Copy)]
-pub enum Decimal {
-    Number(i32),
-    Malformed,
-}
-
-fn wide(b: u8) -> u64
-    ensures { result ≡ b }
-{
-    b as u64
-}
+ghost use Rattle.std.specs.Prelude.{◌≡◌, Some};
+ghost use Rattle.decimal.specs.Decimal.{digits_from, capped, unsigned_of, negative, parse_of};
 
 // The value of a run of digits, up to 2147483648.
-fn digits(s: &[u8]) -> Magnitude
+fn digits(s: &[u8]) -> Option<u64>
     ensures { result ≡ capped (digits_from 0 s.now) }
 {
     let mut v: u64 = 0;
-    let mut i = 0;
-    while i < s.len() {
-        let b = s[i];
-        if b < b'0' {
-            return Magnitude::Bad;
+    for &b in s {
+        if !b.is_ascii_digit() {
+            return None;
         }
-        if b'9' < b {
-            return Magnitude::Bad;
-        }
-        v = v * 10 + wide(b - b'0');
+        v = v * 10 + u64::from(b - b'0');
         if 2147483648 < v {
-            return Magnitude::Bad;
+            return None;
         }
-        i += 1;
     }
-    Magnitude::Value(v)
+    Some(v)
 }
 
 // The value of an unsigned decimal without a leading zero, up to 2147483648.
-fn magnitude_of(s: &[u8]) -> Magnitude
+fn magnitude_of(s: &[u8]) -> Option<u64>
     ensures { result ≡ capped (unsigned_of s.now) }
 {
-    let n = s.len();
-    if n == 0 {
-        return Magnitude::Bad;
+    match s {
+        [] => None,
+        [b'0'] => Some(0),
+        [b'0', ..] => None,
+        _ => digits(s),
     }
-    let b = s[0];
-    if b == b'0' {
-        if n == 1 {
-            return Magnitude::Value(0);
-        }
-        return Magnitude::Bad;
-    }
-    digits(s)
 }
 
-// The number of a sign and a distance, where it fits.
-fn from_sign(s: Split) -> Decimal
-    ensures { result ≡ signed_of s }
+// The number so far below 0, where it fits; there is no -0.
+fn negated(v: u64) -> Option<i32>
+    ensures { result ≡ negative (Some v) }
 {
-    match s {
-        Split::Nat(n) => if n < 2147483648 {
-            Decimal::Number(n as i32)
-        } else {
-            Decimal::Malformed
-        },
-        Split::Neg(n) => if n < 2147483648 {
-            Decimal::Number(-1 - n as i32)
-        } else {
-            Decimal::Malformed
-        },
+    match v {
+        0 => None,
+        _ => i32::try_from(v - 1).ok().map(|n| -1 - n),
     }
 }
 
 // The number that s is the canonical decimal of.
-pub fn read_decimal(s: &[u8]) -> Decimal
+pub fn read_decimal(s: &[u8]) -> Option<i32>
     ensures { result ≡ parse_of s.now }
 {
-    let n = s.len();
-    if n == 0 {
-        return Decimal::Malformed;
+    if let [b'-', distance @ ..] = s {
+        return negated(magnitude_of(distance)?);
     }
-    let b = s[0];
-    if b == b'-' {
-        let m = magnitude_of(&s[1..]);
-        match m {
-            Magnitude::Value(v) => {
-                if v == 0 {
-                    return Decimal::Malformed;
-                }
-                from_sign(Split::Neg((v - 1) as u32))
-            }
-            Magnitude::Bad => Decimal::Malformed,
-        }
-    } else {
-        let m = magnitude_of(s);
-        match m {
-            Magnitude::Value(v) => from_sign(Split::Nat(v as u32)),
-            Magnitude::Bad => Decimal::Malformed,
-        }
-    }
+    i32::try_from(magnitude_of(s)?).ok()
 }

@@ -7,7 +7,7 @@ use borrow.Author.Tests.{ltb-true}
 use lib.Dec.{ltb}
 use lib.IntN.{ℤ, pos, negsuc, ◌-ℤ◌, sub_ℕ}
 use Rattle.integer.specs.Range.{eighths_of}
-use Rattle.integer.specs.declared.Ranged.TheVariants.{In, Out}
+use Rattle.std.specs.Prelude.{Some, None}
 use Rattle.rules.specs.Events.{natural}
 use Rattle.demand.specs.Demand.{slope_of, demand_of}
 use Rattle.demand.specs.Signed.{FaithfulDemand}
@@ -28,11 +28,11 @@ below : (n k : ℕ) → natural (negsuc n -ℤ pos k) ≡ 0
 below n zero = natural_sub 0 (suc n) ∙ omega arith
 below n (suc k) = refl
 
-inside : (b : Bool) {n r : ℕ} → cond b (In n) Out ≡ In r → r ≡ n
+inside : (b : Bool) {n r : ℕ} → cond b (Some n) None ≡ Some r → r ≡ n
 inside true e = cc
 inside false e = let z : ◌≡◌ {A = ℕ} 0 1 = cc in absurd (omega arith)
 
-held_above_lem : (t : ℤ) (r k : ℕ) → eighths_of t ≡ In r → r - (k + 1024) ≡ natural (t -ℤ pos k)
+held_above_lem : (t : ℤ) (r k : ℕ) → eighths_of t ≡ Some r → r - (k + 1024) ≡ natural (t -ℤ pos k)
 unfolding eighths_of
 held_above_lem (pos n) r k e = let q = inside (ltb n 1024) e in omega (arith, above n k)
 held_above_lem (negsuc n) r k e = let q = inside (ltb n 1024) e in omega (arith, below n k)

@@ -1,7 +1,7 @@
 -- T-07 of document 02: the stamps after an accepted event, and the age of a fan.
 use Rattle.std.specs.Prelude.{ℕ, ◌+◌, ◌-◌, ◌%◌, cond, ◌&&◌, ◌||◌, ◌==◌, nat_lt}
 use Rattle.part.specs.declared.FanId.{FanId}
-use Rattle.part.specs.declared.FanId.TheVariants.{One, Two}
+use Rattle.part.specs.Each.{of_fan, map_fans}
 use Rattle.event.specs.declared.Kind.TheVariants as kind
 use Rattle.input.specs.declared.Input.{Input}
 use Rattle.input.specs.Inputs.{is_a, is_restart}
@@ -21,14 +21,9 @@ unfoldable pub stamps_after : Input → Stamps → (before after : Chip) → Sta
 stamps_after i s before after =
     record {
       now = stamp_after i s.now;
-      fan1 = fan_stamp_after i (stamp_after i s.now) s.fan1 before.fan1 after.fan1;
-      fan2 = fan_stamp_after i (stamp_after i s.now) s.fan2 before.fan2 after.fan2;
+      starts = map_fans (λ f was. fan_stamp_after i (stamp_after i s.now) was (of_fan f before.fans) (of_fan f after.fans)) s.starts;
     }
-
-abbrev pub start_stamp : FanId → Stamps → ℕ
-start_stamp One s = s.fan1
-start_stamp Two s = s.fan2
 
 -- the difference modulo 65,536
 abbrev pub age_of : FanId → Stamps → ℕ
-age_of f s = (s.now + (65536 - start_stamp f s)) % 65536
+age_of f s = (s.now + (65536 - of_fan f s.starts)) % 65536

@@ -10,18 +10,17 @@ ghost use Rattle.device.specs.Devices.{raises_in, silenced_after, device_after};
 use chip::Chip;
 use event::Kind;
 use input::Input;
-use part::FanId;
+use part::{FanId, PerFan};
 pub use stamping::age;
 
 // The stamp, and that of each fan when it last started.
-#[derive(Clone, Copy)]
+#[derive(Clone, Copy, Default)]
 pub struct Stamps {
     pub now: u16,
-    pub fan1: u16,
-    pub fan2: u16,
+    pub starts: PerFan<u16>,
 }
 
-#[derive(Clone, Copy)]
+#[derive(Clone, Copy, Default)]
 pub struct Device {
     pub chip: Chip,
     pub silenced: bool,
@@ -39,12 +38,7 @@ fn risen(was: u8, now: u8, place: u8) -> bool
 fn some_risen(was: u8, now: u8) -> bool
     ensures { result ≡ some_risen was now }
 {
-    risen(was, now, 0)
-        | (risen(was, now, 1)
-            | (risen(was, now, 2)
-                | (risen(was, now, 3)
-                    | (risen(was, now, 4)
-                        | (risen(was, now, 5) | (risen(was, now, 6) | risen(was, now, 7)))))))
+    (0..8).any(|place| risen(was, now, place))
 }
 
 // Whether any of the sixteen status bits does.
@@ -74,17 +68,15 @@ fn silenced_after(i: Input, was: bool, before: Chip, after: Chip) -> bool
     }
 }
 
-// All of it after an accepted event.
-pub fn device_after(i: Input, d: Device) -> Device
-    ensures { result ≡ device_after i d }
-{
-    let before = d.chip;
-    let after = chip::chip_after(i, before);
-    let silenced = silenced_after(i, d.silenced, before, after);
-    let stamps = stamping::stamps_after(i, d.stamps, before, after);
-    Device {
-        chip: after,
-        silenced,
-        stamps,
+impl Device {
+    // An accepted event.
+    #[tactic(auto, unfolding(crate::specs::Devices::device_after))]
+    pub fn accept(&mut self, i: Input)
+        ensures { self.new ≡ device_after i self.old }
+    {
+        let before = self.chip;
+        self.chip.accept(i);
+        self.silenced = silenced_after(i, self.silenced, before, self.chip);
+        self.stamps = stamping::stamps_after(i, self.stamps, before, self.chip);
     }
 }

@@ -1,7 +1,7 @@
 // Stamps of 16 bits (T-07 of document 02): the accepted clock events since power, and for each fan the stamp when it last started.
 // They count modulo 65,536: a sum and a difference wrap.
 ghost use Rattle.std.specs.Prelude.{◌≡◌};
-ghost use Rattle.device.specs.Stamping.{stamp_after, fan_stamp_after, stamps_after, start_stamp, age_of};
+ghost use Rattle.device.specs.Stamping.{stamp_after, fan_stamp_after, stamps_after, age_of};
 
 use super::Stamps;
 use chip::Chip;
@@ -18,7 +18,7 @@ fn stamp_after(i: Input, was: u16) -> u16
         return 0;
     }
     if input::is_a(Kind::Clock, i) {
-        std::num::wrapping_add_u16(was, 1)
+        was.wrapping_add(1)
     } else {
         was
     }
@@ -38,29 +38,24 @@ fn fan_stamp_after(i: Input, now: u16, was: u16, before: Fan, after: Fan) -> u16
     }
 }
 
+#[tactic(auto, unfolding(crate::specs::Stamping::stamps_after))]
 pub fn stamps_after(i: Input, s: Stamps, before: Chip, after: Chip) -> Stamps
     ensures { result ≡ stamps_after i s before after }
 {
     let now = stamp_after(i, s.now);
-    Stamps {
+    let starts = s.starts.map(|f, was| fan_stamp_after(
+        i,
         now,
-        fan1: fan_stamp_after(i, now, s.fan1, before.fan1, after.fan1),
-        fan2: fan_stamp_after(i, now, s.fan2, before.fan2, after.fan2),
-    }
-}
-
-fn start_stamp(f: FanId, s: Stamps) -> u16
-    ensures { result ≡ start_stamp f s }
-{
-    match f {
-        FanId::One => s.fan1,
-        FanId::Two => s.fan2,
-    }
+        was,
+        before.fans.get(f),
+        after.fans.get(f),
+    ));
+    Stamps { now, starts }
 }
 
 // The age of a fan: the clock events since its stamp was set.
 pub fn age(f: FanId, s: Stamps) -> u16
     ensures { result ≡ age_of f s }
 {
-    std::num::wrapping_sub_u16(s.now, start_stamp(f, s))
+    s.now.wrapping_sub(s.starts.get(f))
 }

@@ -1,5 +1,6 @@
 -- The lines as they are worked out, as they are defined, and in whole numbers by registers: the same. Assumes nothing.
-use Rattle.std.proofs.Common.{◌≡◌, ℕ, zero, suc, ◌+◌, ◌*◌, ◌/◌, ◌<◌, ◌≤◌, true, eqb, List, ◌++◌, ℤ, pos, negsuc, ◌+ℤ◌, ◌*ℤ◌, neg_ℤ, sym, ap, ◌∙◌, mul-le-mul, mul-pos, arith, lt-ltb, le-leb}
+use Rattle.std.proofs.Common.{◌≡◌, ℕ, zero, suc, ◌+◌, ◌*◌, ◌/◌, ◌<◌, ◌≤◌, true, eqb, List, ◌++◌, ℤ, pos, negsuc, ◌+ℤ◌, ◌*ℤ◌, neg_ℤ, sym, ap, ◌∙◌, mul-le-mul}
+use Rattle.std.proofs.Common.{mul-pos, arith, lt-ltb, le-leb}
 use lib.Ieee.{Float}
 use lib.Signed.{le_z, lt_z}
 use borrow.Author.Tests.{eqb-false}
@@ -60,7 +61,8 @@ module _ (tenths revolutions : Float → ℤ)
   lines_are : figure_lines tenths revolutions (figures (taken h)) ≡ shown_lines h
   unfolding figure_lines figures shown_lines
   lines_are =
-      five (tenths_line local_name Local) (tenths_line remote1_name Remote1) (tenths_line remote2_name Remote2) (speed_line_lem fan1_name One) (speed_line_lem fan2_name Two)
+      five (tenths_line local_name Local) (tenths_line remote1_name Remote1) (tenths_line remote2_name Remote2) (speed_line_lem fan1_name One)
+      (speed_line_lem fan2_name Two)
 
 module _ (h : History) where
   worked_lines : figure_lines tenths_of revolutions_of (figures (taken h)) ≡ shown_lines h

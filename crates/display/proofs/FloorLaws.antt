@@ -1,5 +1,6 @@
 -- What is printed of a figure is the whole number below it: computed over every reading and every product of count and divisor. Assumes nothing.
-use Rattle.std.proofs.Common.{◌≡◌, ℕ, zero, suc, ◌+◌, ◌-◌, ◌/◌, ◌<◌, ◌≤◌, Bool, true, false, ◌&&◌, eqb, leb, ℤ, pos, negsuc, refl, ap, arith, le-ltb, lt-ltb, eqb-true, leb-true}
+use Rattle.std.proofs.Common.{◌≡◌, ℕ, zero, suc, ◌+◌, ◌-◌, ◌/◌, ◌<◌, ◌≤◌, Bool, true, false, ◌&&◌, eqb, leb, ℤ, pos, negsuc, refl, ap, arith, le-ltb, lt-ltb}
+use Rattle.std.proofs.Common.{eqb-true, leb-true}
 use lib.Ieee.{add, mul, lt, to_unsigned, round}
 use borrow.Author.Tests.{eqb-false}
 use Rattle.integer.proofs.BoolLaws.{by_cases, both}
@@ -74,14 +75,16 @@ module _ (t : ℤ) (y : lies (from_to (negsuc 1023) (pos 1023)) t ≡ true) wher
 
 abbrev turns_test : ℕ → Bool
 turns_test n =
-    alike (revolutions_of (quotient_of (pos 675000) (suc n))) (pos (675000 / suc n)) && alike (floor_of 1 (quotient_of (pos 675000) (suc n))) (pos (675000 / suc n))
+    alike (revolutions_of (quotient_of (pos 675000) (suc n))) (pos (675000 / suc n))
+    && alike (floor_of 1 (quotient_of (pos 675000) (suc n))) (pos (675000 / suc n))
 
 turns_all : all_below turns_test 2032 ≡ true
 unfolding all_below whole_of floor_of quotient_of round lt to_unsigned
 turns_all = refl
 
 turns_both : (n : ℕ) → 0 < n → n ≤ 2032
-    → (alike (revolutions_of (quotient_of (pos 675000) n)) (pos (675000 / n)) ≡ true) × (alike (floor_of 1 (quotient_of (pos 675000) n)) (pos (675000 / n)) ≡ true)
+    → (alike (revolutions_of (quotient_of (pos 675000) n)) (pos (675000 / n)) ≡ true)
+    × (alike (floor_of 1 (quotient_of (pos 675000) n)) (pos (675000 / n)) ≡ true)
 turns_both zero p l = absurd (omega arith)
 turns_both (suc n) p l = both _ _ (each turns_test 2032 n turns_all (omega arith))
 

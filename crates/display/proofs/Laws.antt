@@ -1,37 +1,23 @@
 -- What is put of a text: the lines of the panel, or the number of a refusal. Assumes nothing.
-use Rattle.std.proofs.Common.{◌≡◌, ℕ, List}
-use Rattle.event.specs.Answers.{refusal_number}
+use Rattle.std.proofs.Common.{◌≡◌, ℕ, List, refl}
 use Rattle.event.specs.declared.Panel as panel
-use Rattle.event.specs.declared.Paneled.{Paneled}
-use Rattle.event.specs.declared.Paneled.TheVariants as told
+use Rattle.std.specs.Prelude.{Result, Ok, Err}
 use Rattle.event.specs.declared.Refusal.{Refusal}
-use Rattle.report.specs.Report.{answer_text}
 use Rattle.keeper.specs.declared.Keeper as keeper
 use Rattle.gauge.specs.Gauges.{paneled_of}
 use Rattle.history.proofs.Agree.{agreement}
 use Rattle.runner.specs.Reached.{last_by}
-use Rattle.runner.specs.declared.Last.{Last}
-use Rattle.runner.specs.declared.Last.TheVariants.{Keeper, Refused}
 use Rattle.runner.proofs.LinesLaws.{refused_lines, kept_lines}
 use Rattle.display.specs.Displayed.{panel_lines, displayed}
-use Rattle.display.specs.Worked.{worked_text, worked_told}
+use Rattle.display.specs.Worked.{worked_told}
 use Rattle.display.proofs.DisplaysLaws.{worked_is}
 
--- ---- what is told of a keeper
+-- ---- what is told after the last event
 
-module _ (t : Paneled) where
-  pub told_panel : {p : panel.Panel} → t ≡ told.Panel p → worked_text p ≡ worked_told t
+module _ (text : List ℕ) where
+  pub refused : {r : Refusal} → Err r ≡ last_by text → worked_told (Err r) ≡ displayed text
   unfolding worked_told
-  told_panel q = rw q
+  refused is = refused_lines panel_lines text is refl
 
-  pub told_refused : {r : Refusal} → t ≡ told.Refused r → answer_text (refusal_number r) ≡ worked_told t
-  unfolding worked_told
-  told_refused q = rw q
-
--- ---- the lines of a text
-
-pub shown : (text : List ℕ) {l : Last} {k : keeper.Keeper} {t : Paneled} → l ≡ last_by text → l ≡ Keeper k → t ≡ paneled_of k → worked_told t ≡ displayed text
-shown text is q e = kept_lines panel_lines text is q (λ h same. rw (e, same, (agreement h).panel) (worked_is h))
-
-pub refused : (text : List ℕ) {l : Last} {r : Refusal} → l ≡ last_by text → l ≡ Refused r → answer_text (refusal_number r) ≡ displayed text
-refused text is q = refused_lines panel_lines text is q
+  pub shown : {k : keeper.Keeper} {t : Result panel.Panel Refusal} → Ok k ≡ last_by text → t ≡ paneled_of k → worked_told t ≡ displayed text
+  shown kept e = kept_lines panel_lines text kept refl (λ h same. rw (e, same, (agreement h).panel) (worked_is h))

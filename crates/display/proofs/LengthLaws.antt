@@ -1,5 +1,5 @@
 -- The lines have at most 100 bytes, whatever the text. Assumes nothing.
-use Rattle.std.proofs.Common.{◌≡◌, ℕ, ◌+◌, ◌<◌, ◌≤◌, ltb, List, [], ◌∷◌, ◌++◌, length, ℤ, pos, arith, length-append, w32, SFits, ltb-true}
+use Rattle.std.proofs.Common.{◌≡◌, ◌∙◌, ℕ, ◌+◌, ◌<◌, ◌≤◌, ltb, List, [], ◌∷◌, ◌++◌, length, ℤ, pos, arith, length-append, w32, SFits, ltb-true}
 use lib.Ieee.{Float, to_unsigned}
 use Rattle.integer.proofs.BoolLaws.{by_cases, either}
 use Rattle.decimal.specs.Decimal.{decimal_of, text_of}
@@ -16,6 +16,8 @@ use Rattle.runner.proofs.LinesLaws.{lines_within}
 use Rattle.display.specs.Lines.{local_name, remote1_name, remote2_name, fan1_name, fan2_name, none_word, stalled_word, speed_line, figure_lines}
 use Rattle.display.specs.Displayed.{panel_lines, displayed}
 use Rattle.display.specs.Worked.{narrow_of, short_of, whole_of, tenths_of, worked_speed, worked_text, worked_told}
+use Rattle.buffer.specs.Append.{appended}
+use Rattle.buffer.proofs.AppendLaws.{append_then, append_alone}
 use Rattle.display.proofs.LineLaws.{minus}
 use Rattle.display.proofs.DisplaysLaws.{worked_is}
 
@@ -74,3 +76,20 @@ told_short h = by_cases (powered (taken h)) (λ on. rw on (panel_short (figures 
 
 pub lines_short : (text : List ℕ) → length (displayed text) ≤ 100
 lines_short text = lines_within panel_lines 100 (omega arith) (λ h. rw (← worked_is h) (told_short h)) text
+
+-- ---- the five lines, put together aside
+
+pub lines_appended : (p : panel.Panel) (x x1 x2 x3 x4 x5 : List ℕ) {text : List ℕ} → x ≡ [] → x1 ≡ appended x (number_text local_name (tenths_of p.local))
+    → x2 ≡ appended x1 (number_text remote1_name (tenths_of p.remote1)) → x3 ≡ appended x2 (number_text remote2_name (tenths_of p.remote2))
+    → x4 ≡ appended x3 (worked_speed fan1_name p.fan1) → x5 ≡ appended x4 (worked_speed fan2_name p.fan2) → text ≡ x5 → text ≡ worked_text p
+unfolding figure_lines
+lines_appended p x x1 x2 x3 x4 x5 h0 h1 h2 h3 h4 h5 q =
+    let first : List ℕ = number_text local_name (tenths_of p.local) in
+    let second : List ℕ = number_text remote1_name (tenths_of p.remote1) in
+    let third : List ℕ = number_text remote2_name (tenths_of p.remote2) in
+    let fourth : List ℕ = worked_speed fan1_name p.fan1 in
+    let fifth : List ℕ = worked_speed fan2_name p.fan2 in
+    q ∙ append_alone (worked_text p)
+    (append_then [] x1 first (second ++ (third ++ (fourth ++ fifth))) (rw h0 at h1)
+    (append_then x1 x2 second (third ++ (fourth ++ fifth)) h2 (append_then x2 x3 third (fourth ++ fifth) h3 (append_then x3 x4 fourth fifth h4 h5))))
+    (omega (arith, panel_short p))

@@ -1,10 +1,10 @@
 -- T-06 of document 02: what the program `panel` prints of a trace text, by the rules over its events.
-use Rattle.std.specs.Prelude.{ℕ, ◌+◌, ◌-◌, ◌*◌, ◌/◌, true, false, List, ℤ, pos, neg_ℤ, Float}
+use Rattle.std.specs.Prelude.{ℕ, ◌+◌, ◌-◌, ◌*◌, ◌/◌, true, false, List, ℤ, pos, neg_ℤ, Float, Result, Ok, Err}
 use Rattle.std.specs.Float.{nan, inf, fin}
 use Rattle.std.specs.Float.Ieee.{up, down}
 use Rattle.event.specs.Answers.{refusal_number}
-use Rattle.event.specs.declared.Paneled.{Paneled}
-use Rattle.event.specs.declared.Paneled.TheVariants.{Panel, Refused}
+use Rattle.event.specs.declared.Panel.{Panel}
+use Rattle.event.specs.declared.Refusal.{Refusal}
 use Rattle.rules.specs.Replies.{History, taken}
 use Rattle.rules.specs.Panels.{panel_for}
 use Rattle.report.specs.Report.{answer_text}
@@ -19,10 +19,10 @@ floor_of times (inf s) = pos 0
 floor_of times nan = pos 0
 
 -- tenths of a degree and revolutions, both rounded down; or answer= and the number of a refusal
-unfoldable pub paneled_text : Paneled → List ℕ
+unfoldable pub paneled_text : Result Panel Refusal → List ℕ
 unfolding figure_lines floor_of answer_text
-paneled_text (Panel p) = figure_lines (floor_of 10) (floor_of 1) p
-paneled_text (Refused r) = answer_text (refusal_number r)
+paneled_text (Ok p) = figure_lines (floor_of 10) (floor_of 1) p
+paneled_text (Err r) = answer_text (refusal_number r)
 
 -- after the last of some events
 abbrev pub panel_lines : History → List ℕ

@@ -1,12 +1,11 @@
 -- The same lines as the program works them out, by floating-point operations.
-use Rattle.std.specs.Prelude.{ℕ, Bool, true, false, cond, ◌&&◌, List, ℤ, pos, ◌-ℤ◌, nat_lt, Float}
+use Rattle.std.specs.Prelude.{ℕ, Bool, true, false, cond, ◌&&◌, List, ℤ, pos, ◌-ℤ◌, nat_lt, Float, Result, Ok, Err}
 use Rattle.std.specs.Float.{fin, binary64}
 use Rattle.std.specs.Float.Ieee.{add, mul, lt, to_unsigned}
 use Rattle.event.specs.Answers.{refusal_number}
 use Rattle.event.specs.declared.FanSpeed.{FanSpeed}
 use Rattle.event.specs.declared.Panel as panel
-use Rattle.event.specs.declared.Paneled.{Paneled}
-use Rattle.event.specs.declared.Paneled.TheVariants.{Panel, Refused}
+use Rattle.event.specs.declared.Refusal.{Refusal}
 use Rattle.report.specs.Report.{answer_text}
 use Rattle.display.specs.Lines.{speed_line, figure_lines}
 
@@ -36,7 +35,7 @@ worked_speed name s = speed_line revolutions_of name s
 abbrev pub worked_text : panel.Panel → List ℕ
 worked_text p = figure_lines tenths_of revolutions_of p
 
-unfoldable pub worked_told : Paneled → List ℕ
+unfoldable pub worked_told : Result panel.Panel Refusal → List ℕ
 unfolding figure_lines answer_text
-worked_told (Panel p) = worked_text p
-worked_told (Refused r) = answer_text (refusal_number r)
+worked_told (Ok p) = worked_text p
+worked_told (Err r) = answer_text (refusal_number r)

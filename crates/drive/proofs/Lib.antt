@@ -1,2 +1,1 @@
 pub mod RampLaws
-pub mod Laws

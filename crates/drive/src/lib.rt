@@ -7,6 +7,7 @@ ghost use Rattle.drive.specs.Drive.{duty_of, starts_of, left_of, driven_of, alar
 ghost use Rattle.drive.specs.Tach.{judged_of, failed_of, run_of};
 
 // What registers, pin and channels ask of a fan after an event.
+// Stays: `filtered` beside `rate`, which its register holds while the filter is off too, so neither tells of the other.
 #[derive(Clone, Copy)]
 pub struct Setting {
     pub enabled: bool,
@@ -26,17 +27,18 @@ pub struct FanInput {
 }
 
 // A fan's duty, and the clock events that are left of its spin-up.
-#[derive(Clone, Copy)]
+#[derive(Clone, Copy, Default)]
 pub struct Drive {
     pub duty: u8,
     pub left: u8,
 }
 
+// Stays: a code of the data sheet, here and in the spin-up; an enum would be made of it by the same arms.
+#[tactic(auto, unfolding(rules::specs::Duties::rate_of))]
 pub fn ramp_rate(filter: u8) -> u8
     ensures { result ≡ rate_of filter }
 {
-    let code = filter / 32 % 4;
-    match code {
+    match filter / 32 % 4 {
         0 => 1,
         1 => 2,
         2 => 4,
@@ -44,11 +46,11 @@ pub fn ramp_rate(filter: u8) -> u8
     }
 }
 
+#[tactic(auto, unfolding(rules::specs::Duties::spin_up_of))]
 pub fn spin_up_clocks(characteristics: u8) -> u8
     ensures { result ≡ spin_up_of characteristics }
 {
-    let code = characteristics % 8;
-    match code {
+    match characteristics % 8 {
         0 => 2,
         1 => 4,
         2 => 6,
@@ -61,24 +63,15 @@ pub fn spin_up_clocks(characteristics: u8) -> u8
 }
 
 // Nearer to the target by an amount, never past it.
+#[tactic(auto, using(rules::proofs::SoundLaws::nearer_is))]
 pub fn nearer(amount: u32, target: u8, duty: u8) -> u8
     ensures { result ≡ nearer amount target duty }
 {
-    if duty < target {
-        if (target - duty) as u32 <= amount {
-            target
-        } else {
-            duty + amount as u8
-        }
-    } else {
-        if (duty - target) as u32 <= amount {
-            target
-        } else {
-            duty - amount as u8
-        }
-    }
+    let amount = amount.min(255) as u8;
+    target.clamp(duty.saturating_sub(amount), duty.saturating_add(amount))
 }
 
+#[tactic(auto, unfolding(crate::specs::Drive::duty_of))]
 pub fn duty_after(s: Setting, period: bool, spinning: bool, was: u8) -> u8
     ensures { result ≡ duty_of s period spinning was }
 {
@@ -94,46 +87,46 @@ pub fn duty_after(s: Setting, period: bool, spinning: bool, was: u8) -> u8
     if spinning {
         return 240;
     }
-    if s.filtered {
-        if period {
-            nearer(s.rate as u32, s.target, was)
-        } else {
-            was
-        }
+    if !s.filtered {
+        return s.target;
+    }
+    if period {
+        nearer(u32::from(s.rate), s.target, was)
     } else {
-        s.target
+        was
     }
 }
 
+#[tactic(auto, unfolding(crate::specs::Drive::starts_of))]
 pub fn starts(s: Setting, b: FanInput, was: u8) -> bool
     ensures { result ≡ starts_of s b was }
 {
-    b.failed | ((was == 0) & (s.enabled & ((0 < s.target) | s.overridden)))
+    b.failed || (was == 0 && s.enabled && (0 < s.target || s.overridden))
 }
 
+#[tactic(auto, unfolding(crate::specs::Drive::left_of))]
 fn spin_left(s: Setting, b: FanInput, d: Drive) -> u8
     ensures { result ≡ left_of s b d }
 {
     if starts(s, b, d.duty) {
-        return s.spin_up;
-    }
-    if b.clock {
-        if 0 < d.left { d.left - 1 } else { 0 }
+        s.spin_up
+    } else if b.clock {
+        d.left.saturating_sub(1)
     } else {
         d.left
     }
 }
 
 // A fan after an event.
+#[tactic(auto, unfolding(crate::specs::Drive::driven_of))]
 pub fn driven(s: Setting, b: FanInput, d: Drive) -> Drive
     ensures { result ≡ driven_of s b d }
 {
     let left = spin_left(s, b, d);
     let duty = duty_after(s, b.period, 0 < left, d.duty);
-    if duty == 0 {
-        Drive { duty, left: 0 }
-    } else {
-        Drive { duty, left }
+    Drive {
+        duty,
+        left: if duty == 0 { 0 } else { left },
     }
 }
 
@@ -141,7 +134,7 @@ pub fn driven(s: Setting, b: FanInput, d: Drive) -> Drive
 pub fn at_alarm(s: Setting) -> bool
     ensures { result ≡ alarm_of s }
 {
-    s.enabled & s.overridden
+    s.enabled && s.overridden
 }
 
 // ---- tach counts
@@ -149,21 +142,22 @@ pub fn at_alarm(s: Setting) -> bool
 pub fn judged(tach: bool, d: Drive) -> bool
     ensures { result ≡ judged_of tach d.duty d.left }
 {
-    tach & ((0 < d.duty) & (d.left == 0))
+    tach && 0 < d.duty && d.left == 0
 }
 
 pub fn failed(judged: bool, limit: u8, count: u8) -> bool
     ensures { result ≡ failed_of judged limit count }
 {
-    judged & (limit < count)
+    judged && limit < count
 }
 
 // The run of failures after a count.
+#[tactic(auto, unfolding(crate::specs::Tach::run_of))]
 pub fn run_after(judged: bool, failed: bool, run: u8) -> u8
     ensures { result ≡ run_of judged failed run }
 {
     if failed {
-        if run < 4 { run + 1 } else { 5 }
+        run.saturating_add(1).min(5)
     } else if judged {
         0
     } else {

@@ -1,5 +1,5 @@
 -- Kinds and their places in the table; an event by its kind; the size of a reply number. Assumes nothing.
-use Prim.Native.Nat.{ℕ, zero, suc, ◌≤◌, ◌<◌}
+use Prim.Native.Nat.{ℕ, zero, suc, ◌<◌}
 use mathlib.Core.Bool.{Bool, true, false, ◌&&◌, true≢false}
 use mathlib.Core.Path.{◌≡◌, refl, sym, ap, subst}
 use mathlib.Core.Logic.{inl, inr}
@@ -10,7 +10,7 @@ use denote.Enum.Declared.{Choice, Record}
 use native.Mathlib.Omega.{arith}
 use lib.Dec.{ltb}
 use borrow.Author.Tests.{ltb-true}
-use lib.ListN.{length, get_or-eq_default}
+use lib.ListN.{length}
 use Rattle.event.specs.declared.Numbers.{Numbers}
 use Rattle.event.specs.declared.Transfer.{Transfer}
 use Rattle.event.specs.contracts.Transfer.{enum as transfer-enum}
@@ -19,11 +19,9 @@ use Rattle.event.specs.contracts.Event.{enum as event-enum}
 use Rattle.event.specs.declared.Event.TheVariants as event
 use Rattle.event.specs.declared.Kind.{Kind}
 use Rattle.event.specs.contracts.Kind.{enum as kind-enum}
-use Rattle.event.specs.declared.Kind.TheVariants as kind
 use Rattle.event.specs.declared.Refusal.{Refusal}
 use Rattle.event.specs.contracts.Refusal.{enum as refusal-enum}
-use Rattle.event.specs.declared.Answer.{Answer}
-use Rattle.event.specs.declared.Answer.TheVariants.{Done, Refused}
+use Rattle.std.specs.Prelude.{Result, Ok, Err}
 use Rattle.event.specs.Answers.{refusal_number, number_of}
 use Rattle.event.specs.Kinds.{kind_of, numbers_of, event_of, kinds, kind_at, place_of}
 
@@ -57,9 +55,6 @@ same_row (Fs ∷ Fss) f g q (inr c) = same_row Fss (λ c. f (inr c)) (λ c. g (i
 -- two functions with the same rows are the same: one computed equation for every value
 pub by_rows : (N : Record) {X : Type 0} (f g : N.D → X) → rows N.parts (λ c. f (N.make c)) ≡ rows N.parts (λ c. g (N.make c)) → (d : N.D) → f d ≡ g d
 by_rows N f g q d = subst (λ d. f d ≡ g d) (N.eta d) (same_row N.parts (λ c. f (N.make c)) (λ c. g (N.make c)) q (N.as_values d))
-
-pub past_kinds : (p : ℕ) → length kinds ≤ p → kind.Power ≡ kind_at p
-past_kinds p h = sym (get_or-eq_default kinds kind.Power h)
 
 -- a kind stands at its place
 pub kind_back : (k : Kind) → kind_at (place_of k) ≡ k
@@ -111,6 +106,6 @@ event_made {e} hk hn = rw (← hk, ← hn) (sym (event_back e))
 refusal_small : (r : Refusal) → refusal_number r < 1000
 refusal_small r = ltb-true (refusal_number r) 1000 (by_rows refusal-enum (λ r. ltb (refusal_number r) 1000) (λ r. true) refl r)
 
-pub number_small : (a : Answer) → number_of a < 1000
-number_small (Done d) = omega arith
-number_small (Refused r) = refusal_small r
+pub number_small : (a : Result ℕ Refusal) → number_of a < 1000
+number_small (Ok d) = omega arith
+number_small (Err r) = refusal_small r

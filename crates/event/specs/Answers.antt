@@ -1,10 +1,8 @@
 -- Document 01, "The reply numbers": the number and the data of each answer. 12 and 13 are T-02's and T-05's, of document 02.
-use Rattle.std.specs.Prelude.{ℕ}
+use Rattle.std.specs.Prelude.{ℕ, Result, Ok, Err}
 use Rattle.event.specs.declared.Refusal.{Refusal}
 use Rattle.event.specs.declared.Refusal.TheVariants.{NoPower, OtherAddress, NoSuchPart, NoSuchRegister, ReadOnly, OutOfRange, BadRangeCode, OddLocal}
 use Rattle.event.specs.declared.Refusal.TheVariants.{NotMonitoring, Malformed, WrongSize, NoAlert, BrokenDiode}
-use Rattle.event.specs.declared.Answer.{Answer}
-use Rattle.event.specs.declared.Answer.TheVariants.{Done, Refused}
 
 abbrev pub refusal_number : Refusal → ℕ
 refusal_number NoPower = 1
@@ -21,11 +19,11 @@ refusal_number WrongSize = 11
 refusal_number NoAlert = 12
 refusal_number BrokenDiode = 13
 
-abbrev pub number_of : Answer → ℕ
-number_of (Done d) = 0
-number_of (Refused r) = refusal_number r
+abbrev pub number_of : {T : Type 0} → Result T Refusal → ℕ
+number_of (Ok x) = 0
+number_of (Err r) = refusal_number r
 
 -- a refusal has data 0
-abbrev pub data_of : Answer → ℕ
-data_of (Done d) = d
-data_of (Refused r) = 0
+abbrev pub data_of : Result ℕ Refusal → ℕ
+data_of (Ok d) = d
+data_of (Err r) = 0

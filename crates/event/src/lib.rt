@@ -37,7 +37,7 @@ pub enum Event {
 }
 
 // The kinds of document 01's table, in its order, and those of document 02 behind them.
-#[derive(Clone, Copy)]
+#[derive(Clone, Copy, Debug, PartialEq, Eq)]
 pub enum Kind {
     Power,
     Write,
@@ -52,22 +52,14 @@ pub enum Kind {
     Diode,
 }
 
-fn transfer_kind(t: Transfer) -> Kind
-    ensures { result ≡ kind_of (Event.Bus t) }
-{
-    match t {
-        Transfer::Write(_) => Kind::Write,
-        Transfer::Point(_) => Kind::Point,
-        Transfer::Read(_) => Kind::Read,
-    }
-}
-
 pub fn kind_of(e: Event) -> Kind
     ensures { result ≡ kind_of e }
 {
     match e {
         Event::Power(_) => Kind::Power,
-        Event::Bus(t) => transfer_kind(t),
+        Event::Bus(Transfer::Write(_)) => Kind::Write,
+        Event::Bus(Transfer::Point(_)) => Kind::Point,
+        Event::Bus(Transfer::Read(_)) => Kind::Read,
         Event::Sample(_) => Kind::Sample,
         Event::Tach(_) => Kind::Tach,
         Event::Pin(_) => Kind::Pin,
@@ -78,35 +70,25 @@ pub fn kind_of(e: Event) -> Kind
     }
 }
 
-fn transfer_numbers(t: Transfer) -> Numbers
-    ensures { result ≡ numbers_of (Event.Bus t) }
-{
-    match t {
-        Transfer::Write(n) => n,
-        Transfer::Point(n) => n,
-        Transfer::Read(n) => n,
-    }
-}
-
 pub fn numbers_of(e: Event) -> Numbers
     ensures { result ≡ numbers_of e }
 {
     match e {
-        Event::Power(n) => n,
-        Event::Bus(t) => transfer_numbers(t),
-        Event::Sample(n) => n,
-        Event::Tach(n) => n,
-        Event::Pin(n) => n,
-        Event::Clock(n) => n,
-        Event::Period(n) => n,
-        Event::Alert(n) => n,
-        Event::Diode(n) => n,
+        Event::Bus(Transfer::Write(n) | Transfer::Point(n) | Transfer::Read(n))
+        | Event::Power(n)
+        | Event::Sample(n)
+        | Event::Tach(n)
+        | Event::Pin(n)
+        | Event::Clock(n)
+        | Event::Period(n)
+        | Event::Alert(n)
+        | Event::Diode(n) => n,
     }
 }
 
 // An event of a kind, with these numbers.
-fn of_kind(k: Kind, n: Numbers) -> Event
-    ensures { (kind_of result ≡ k) × (numbers_of result ≡ n) }
+pub fn event_of(k: Kind, n: Numbers) -> Event
+    ensures { result ≡ event_of k n }
 {
     match k {
         Kind::Power => Event::Power(n),
@@ -123,34 +105,15 @@ fn of_kind(k: Kind, n: Numbers) -> Event
     }
 }
 
-pub fn event_of(k: Kind, n: Numbers) -> Event
-    ensures { result ≡ event_of k n }
-{
-    of_kind(k, n)
-}
-
 // A kind's place in the table.
+// Stays: a kind by number, here and in `kind_at`: C hands kinds over so.
 pub fn place_of(k: Kind) -> u8
     ensures { result ≡ place_of k }
 {
-    match k {
-        Kind::Power => 0,
-        Kind::Write => 1,
-        Kind::Point => 2,
-        Kind::Read => 3,
-        Kind::Sample => 4,
-        Kind::Tach => 5,
-        Kind::Pin => 6,
-        Kind::Clock => 7,
-        Kind::Period => 8,
-        Kind::Alert => 9,
-        Kind::Diode => 10,
-    }
+    k as u8
 }
 
-pub const KIND_COUNT: u16 = 11;
-
-const KINDS: [Kind; 11] = [
+pub const KINDS: [Kind; 11] = [
     Kind::Power,
     Kind::Write,
     Kind::Point,
@@ -164,80 +127,62 @@ const KINDS: [Kind; 11] = [
     Kind::Diode,
 ];
 
+pub const KIND_COUNT: u16 = KINDS.len() as u16;
+
 // The kind at a place of the table; the first one past its end.
 pub fn kind_at(place: u16) -> Kind
     ensures { result ≡ kind_at place }
 {
-    if KIND_COUNT <= place {
-        return Kind::Power;
-    }
-    KINDS[place as usize]
+    KINDS
+        .get(usize::from(place))
+        .copied()
+        .unwrap_or(Kind::Power)
 }
 
-// Why an event, an image, a text or a row of alert entries is refused: the replies from 1, in their order.
-#[derive(Clone, Copy)]
+// Why an event, an image, a text or a row of alert entries is refused, each with its reply number.
+#[derive(Clone, Copy, Debug, PartialEq, Eq)]
 pub enum Refusal {
-    NoPower,
-    OtherAddress,
-    NoSuchPart,
-    NoSuchRegister,
-    ReadOnly,
-    OutOfRange,
-    BadRangeCode,
-    OddLocal,
-    NotMonitoring,
-    Malformed,
-    WrongSize,
-    NoAlert,
-    BrokenDiode,
+    NoPower = 1,
+    OtherAddress = 2,
+    NoSuchPart = 3,
+    NoSuchRegister = 4,
+    ReadOnly = 5,
+    OutOfRange = 6,
+    BadRangeCode = 7,
+    OddLocal = 8,
+    NotMonitoring = 9,
+    Malformed = 10,
+    WrongSize = 11,
+    NoAlert = 12,
+    BrokenDiode = 13,
 }
 
-// What any of them is answered: done, with data that only a read and a row hand out, or a refusal.
-#[derive(Clone, Copy)]
-pub enum Answer {
-    Done(u8),
-    Refused(Refusal),
-}
-
-pub fn refusal_number(r: Refusal) -> u8
-    ensures { result ≡ refusal_number r }
-{
-    match r {
-        Refusal::NoPower => 1,
-        Refusal::OtherAddress => 2,
-        Refusal::NoSuchPart => 3,
-        Refusal::NoSuchRegister => 4,
-        Refusal::ReadOnly => 5,
-        Refusal::OutOfRange => 6,
-        Refusal::BadRangeCode => 7,
-        Refusal::OddLocal => 8,
-        Refusal::NotMonitoring => 9,
-        Refusal::Malformed => 10,
-        Refusal::WrongSize => 11,
-        Refusal::NoAlert => 12,
-        Refusal::BrokenDiode => 13,
+impl Refusal {
+    // The reply number.
+    pub fn number(self) -> u8
+        ensures { result ≡ refusal_number self }
+    {
+        self as u8
     }
 }
 
-pub fn number_of(a: Answer) -> u8
-    ensures { result ≡ number_of a }
+// What any of them is answered, `Result<u8, Refusal>`: done, with data that only a read and a row hand out, or a refusal.
+// Its reply number: 0 where it is done.
+pub fn number_of<T: Copy>(answer: Result<T, Refusal>) -> u8
+    ensures { result ≡ number_of answer }
 {
-    match a {
-        Answer::Done(_) => 0,
-        Answer::Refused(r) => refusal_number(r),
-    }
+    answer.err().map_or(0, Refusal::number)
 }
 
-pub fn data_of(a: Answer) -> u8
-    ensures { result ≡ data_of a }
+// Its data: 0 where it is refused.
+pub fn data_of(answer: Result<u8, Refusal>) -> u8
+    ensures { result ≡ data_of answer }
 {
-    match a {
-        Answer::Done(d) => d,
-        Answer::Refused(_) => 0,
-    }
+    answer.unwrap_or(0)
 }
 
 // The outputs: 1 while asserted, else 0; the duties in slots of 240.
+// Stays: pins as numbers, and two duties by name, as the rule `shown` and the theorem Alerts state them.
 #[derive(Clone, Copy)]
 pub struct Shown {
     pub int: u8,
@@ -277,24 +222,10 @@ pub enum Reason {
     Demand(ChannelId),
 }
 
-// What is told of a fan: a reason, or why there is none.
-#[derive(Clone, Copy)]
-pub enum Why {
-    Because(Reason),
-    Refused(Refusal),
-}
-
-// Since when a fan turns (T-07 of document 02): the clock events since it started, modulo 65,536; or why that is not told.
-#[derive(Clone, Copy)]
-pub enum Aged {
-    Clocks(u16),
-    Refused(Refusal),
-}
-
-// Why a fan has its duty, and beside it its age in clock events, 0 where nothing is told.
+// Why a fan has its duty, and since when it turns (T-07 of document 02): the clock events since it started, modulo 65,536.
 #[derive(Clone, Copy)]
 pub struct Explanation {
-    pub why: Why,
+    pub reason: Reason,
     pub age: u16,
 }
 
@@ -307,6 +238,7 @@ pub enum FanSpeed {
 }
 
 // The temperatures in degrees, and the speeds of both fans.
+// Stays: five fields, by whose names the rule `figures` and the theorem PagePanel state each.
 #[derive(Clone, Copy)]
 pub struct Panel {
     pub local: f64,
@@ -314,11 +246,4 @@ pub struct Panel {
     pub remote2: f64,
     pub fan1: FanSpeed,
     pub fan2: FanSpeed,
-}
-
-// What is told of a keeper: its panel, or why there is none.
-#[derive(Clone, Copy)]
-pub enum Paneled {
-    Panel(Panel),
-    Refused(Refusal),
 }

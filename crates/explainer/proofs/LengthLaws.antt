@@ -27,7 +27,8 @@ use Rattle.rules.specs.Replies.{History, taken}
 use Rattle.rules.specs.Events.{channel_number, fan_number, restarts}
 use Rattle.rules.specs.Reasons.{ramp_to, reason_for, why_for}
 use Rattle.rules.specs.Stamps.{age, age_for}
-use Rattle.rules.specs.Duties.{enabled, filtered, spin_up_of, Spin, left, prior, spin_up_starts, given_after, since_after, duty_after, spin_at, spin_after, spin, duty}
+use Rattle.rules.specs.Duties.{enabled, filtered, spin_up_of, Spin, left, prior, spin_up_starts, given_after, since_after, duty_after, spin_at, spin_after}
+use Rattle.rules.specs.Duties.{spin, duty}
 use Rattle.rules.proofs.FanWordsLaws.{at_each}
 use Rattle.history.proofs.BoundsLaws.{target_small, bounds}
 use Rattle.runner.proofs.LinesLaws.{lines_within}

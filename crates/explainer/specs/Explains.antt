@@ -1,10 +1,8 @@
 -- What the program `why` prints, a second time: of a text by what it was written of, in bytes, and in the page's words of what is told.
-use Rattle.std.specs.Prelude.{ℕ, ◌<◌, ◌≤◌, ◌≡◌, false, List, [], ◌∷◌, ◌++◌, length}
+use Rattle.std.specs.Prelude.{ℕ, ◌<◌, ◌≤◌, ◌≡◌, false, List, [], ◌∷◌, ◌++◌, length, Ok}
 use Rattle.decimal.specs.Decimal.{decimal_of}
 use Rattle.part.specs.declared.FanId.TheVariants.{One, Two}
-use Rattle.event.specs.declared.Aged.TheVariants.{Clocks}
 use Rattle.event.specs.declared.Reason.{Reason}
-use Rattle.event.specs.declared.Why.TheVariants.{Because}
 use Rattle.rules.specs.Replies.{History}
 use Rattle.rules.specs.PageReplies.{power_on}
 use Rattle.rules.specs.PageReasons.{told_of}
@@ -24,8 +22,8 @@ pub record Explains (text : List ℕ) : Type 0 where
   pub off : (h : History) → TraceOf h text → power_on h ≡ false → explained text ≡ 97 ∷ 110 ∷ 115 ∷ 119 ∷ 101 ∷ 114 ∷ 61 ∷ 49 ∷ 10 ∷ []
   -- else a line for each fan, with what is told of it after the last event; then age1= and age2=, with the clock events that are told (T-07)
   pub lines :
-      (h : History) (one two : Reason) (m n : ℕ) → TraceOf h text → told_of One h ≡ Because one → told_of Two h ≡ Because two →
-      aged_fan One h ≡ Clocks m → aged_fan Two h ≡ Clocks n →
+      (h : History) (one two : Reason) (m n : ℕ) → TraceOf h text → told_of One h ≡ Ok one → told_of Two h ≡ Ok two →
+      aged_fan One h ≡ Ok m → aged_fan Two h ≡ Ok n →
       explained text
       ≡ (reason_line One one ++ reason_line Two two)
       ++ ((97 ∷ 103 ∷ 101 ∷ 49 ∷ 61 ∷ (decimal_of m ++ (10 ∷ []))) ++ (97 ∷ 103 ∷ 101 ∷ 50 ∷ 61 ∷ (decimal_of n ++ (10 ∷ []))))

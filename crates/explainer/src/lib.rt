@@ -5,36 +5,27 @@ mod words;
 
 ghost use Rattle.std.specs.Prelude.{◌≡◌};
 ghost use Rattle.buffer.specs.Put.{put_of, held_of};
-ghost use Rattle.explainer.specs.Explained.{told_text, explained};
+ghost use Rattle.explainer.specs.Explained.{told_lines, explained};
 
-use buffer::Put;
-use event::{Explanation, Why};
-use runner::Last;
+use event::{Explanation, Refusal};
 
-// What is told of both fans.
-fn put_told(one: Explanation, two: Explanation, buf: &mut [u8]) -> Put
-    ensures value { result ≡ put_of buf.old 0 (told_text one.why two.why one.age two.age) }
-    ensures buf_after { buf.new ≡ held_of buf.old 0 (told_text one.why two.why one.age two.age) }
+// What is told of both fans after the last event of a text.
+fn told(text: &[u8]) -> Result<(Explanation, Explanation), Refusal>
+    ensures { told_lines result ≡ explained text.now }
 {
-    let first = one.why;
-    let second = two.why;
-    match first {
-        Why::Because(a) => match second {
-            Why::Because(b) => words::put_lines(a, b, one.age, two.age, buf),
-            Why::Refused(r) => report::put_refusal(r, buf),
-        },
-        Why::Refused(r) => report::put_refusal(r, buf),
-    }
+    let keeper = runner::after_last(text)?;
+    let one = reason::why(keeper, 1)?;
+    let two = reason::why(keeper, 2)?;
+    Ok((one, two))
 }
 
 // The lines of a text into a lent buffer: where they end; or 11, and the buffer as it was.
-pub fn explain(text: &[u8], buf: &mut [u8]) -> Put
+pub fn explain(text: &[u8], buf: &mut [u8]) -> Result<usize, Refusal>
     ensures value { result ≡ put_of buf.old 0 (explained text.now) }
     ensures buf_after { buf.new ≡ held_of buf.old 0 (explained text.now) }
 {
-    let last = runner::after_last(text);
-    match last {
-        Last::Keeper(k) => put_told(reason::why(k, 1), reason::why(k, 2), buf),
-        Last::Refused(r) => report::put_refusal(r, buf),
+    match told(text) {
+        Ok((one, two)) => words::put_lines(one, two, buf),
+        Err(r) => report::put_refusal(r, buf),
     }
 }

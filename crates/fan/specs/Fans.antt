@@ -14,12 +14,12 @@ use Rattle.drive.specs.declared.Setting.{Setting}
 use Rattle.drive.specs.declared.FanInput.{FanInput}
 use Rattle.input.specs.declared.Input.{Input}
 use Rattle.input.specs.Inputs.{is_a, byte_in, is_count, is_period, is_read, is_restart, bit_after}
-use Rattle.stored.specs.Stored.{fan_registers_of}
+use Rattle.part.specs.Each.{of_fan}
 use Rattle.stored.specs.declared.ChannelRegisters.{ChannelRegisters}
 use Rattle.stored.specs.declared.Registers.{Registers}
 use Rattle.stored.specs.declared.Context.{Context}
 use Rattle.channel.specs.declared.Channel.{Channel}
-use Rattle.channel.specs.declared.Channels.{Channels}
+use Rattle.part.specs.declared.PerChannel.{PerChannel}
 use Rattle.channel.specs.Channels.{therm_of}
 use Rattle.fan.specs.declared.Fan.{Fan}
 
@@ -29,15 +29,15 @@ channel_demand f speeds l ch =
     cond ch.error 240 (demand_of ch.flag (speed_code f speeds) (tmin_of l.control) (range_of l.control) ch.reading)
 
 -- duty 3: the target, from the registers and channels as they stand after the event
-unfoldable pub fan_target : FanId → Registers → Channels → ℕ
+unfoldable pub fan_target : FanId → Registers → PerChannel Channel → ℕ
 fan_target f s cs =
     target_of s.config1 s.speeds f
-    (channel_demand f s.speeds s.local cs.local)
-    (channel_demand f s.speeds s.remote1 cs.remote1)
-    (channel_demand f s.speeds s.remote2 cs.remote2)
+    (channel_demand f s.speeds s.channels.local cs.local)
+    (channel_demand f s.speeds s.channels.remote1 cs.remote1)
+    (channel_demand f s.speeds s.channels.remote2 cs.remote2)
 
 -- duty 3 to 6: what registers, pin and channels ask of a fan
-unfoldable pub setting_of : FanId → (pinLow : Bool) → Registers → Channels → Setting
+unfoldable pub setting_of : FanId → (pinLow : Bool) → Registers → PerChannel Channel → Setting
 setting_of f pinLow s cs =
     record {
       enabled = output_enabled f s.config2;
@@ -45,7 +45,7 @@ setting_of f pinLow s cs =
       filtered = filter_enabled f s.filter;
       target = fan_target f s cs;
       rate = rate_of s.filter;
-      spin_up = spin_up_of (fan_registers_of s f).characteristics;
+      spin_up = spin_up_of (of_fan f s.fans).characteristics;
     }
 
 -- the fan as it counts before a power or reset: "duties count as 0 before it" (temperatures 9)
@@ -60,7 +60,7 @@ abbrev pub judges_fan : FanId → Context → Drive → Bool
 judges_fan f m d = is_count f m.input && judged_of (tach_enabled f m.registers.config2) d.duty d.left
 
 abbrev pub fails_fan : FanId → Context → Drive → Bool
-fails_fan f m d = failed_of (judges_fan f m d) (fan_registers_of m.registers f).limit (byte_in m.input)
+fails_fan f m d = failed_of (judges_fan f m d) (of_fan f m.registers.fans).limit (byte_in m.input)
 
 -- what the event is to the fan
 abbrev pub fan_input_of : FanId → (failed : Bool) → Input → FanInput
@@ -83,5 +83,5 @@ fan_under f s m w =
     }
 
 -- a fan, under registers, pin and channels as they stand after the event
-unfoldable pub fan_after : FanId → (pinLow : Bool) → Context → Channels → Fan → Fan
+unfoldable pub fan_after : FanId → (pinLow : Bool) → Context → PerChannel Channel → Fan → Fan
 fan_after f pinLow m cs was = fan_under f (setting_of f pinLow m.registers cs) m (prior_fan m.input was)

@@ -6,18 +6,18 @@ ghost use Rattle.rules.specs.Fields.{assignment};
 ghost use Rattle.rules.specs.Targets.{assigned_by, demand_if};
 ghost use Rattle.drive.specs.Tach.{failed_of};
 ghost use Rattle.input.specs.Inputs.{byte_in};
-ghost use Rattle.stored.specs.Stored.{fan_registers_of};
+ghost use Rattle.part.specs.Each.{of_fan};
 ghost use Rattle.fan.specs.Fans.{channel_demand, fan_target, setting_of, prior_fan, judges_fan, fan_input_of, fan_run, fan_under, fan_after};
 
-use channel::{Channel, Channels};
+use channel::Channel;
 use drive::{Drive, FanInput, Setting};
 use event::Kind;
 use input::Input;
-use part::{ChannelId, FanId};
+use part::{ChannelId, FanId, PerChannel};
 use stored::{ChannelRegisters, Context, Registers};
 
 // Duty and spin-up, run of failures, whether it is at alarm speed; then the alarm and fault status bits.
-#[derive(Clone, Copy)]
+#[derive(Clone, Copy, Default)]
 pub struct Fan {
     pub drive: Drive,
     pub run: u8,
@@ -44,25 +44,25 @@ pub fn channel_asked(f: FanId, c: ChannelId, s: Registers, l: ChannelRegisters, 
 }
 
 // The duty that a fan is to have.
-fn fan_target(f: FanId, s: Registers, cs: Channels) -> u8
+#[tactic(auto, unfolding(crate::specs::Fans::fan_target, rules::specs::Targets::target_of))]
+fn fan_target(f: FanId, s: Registers, cs: PerChannel<Channel>) -> u8
     ensures { result ≡ fan_target f s cs }
 {
     if integer::bit(s.config1, 7) {
-        demand::largest(
-            channel_asked(f, ChannelId::Local, s, s.local, cs.local),
-            channel_asked(f, ChannelId::Remote1, s, s.remote1, cs.remote1),
-            channel_asked(f, ChannelId::Remote2, s, s.remote2, cs.remote2),
-        )
+        let asked = cs.map(|c, ch| channel_asked(f, c, s, s.channels.get(c), ch));
+        demand::largest(asked)
     } else {
         demand::manual(f, s.speeds)
     }
 }
 
 // What registers, pin and channels ask of a fan.
-pub fn setting(f: FanId, pin_low: bool, s: Registers, cs: Channels) -> Setting
+// Stays: the three are passed one by one, since each of the two callers would make a struct of them for this call alone.
+#[tactic(auto, unfolding(crate::specs::Fans::setting_of))]
+pub fn setting(f: FanId, pin_low: bool, s: Registers, cs: PerChannel<Channel>) -> Setting
     ensures { result ≡ setting_of f pin_low s cs }
 {
-    let own = stored::fan_registers_of(s, f);
+    let own = s.fans.get(f);
     Setting {
         enabled: stored::output_enabled(f, s.config2),
         overridden: demand::overridden(pin_low, s.behaviour, channel::therm(cs)),
@@ -78,13 +78,7 @@ fn prior(i: Input, was: Fan) -> Fan
     ensures { result ≡ prior_fan i was }
 {
     if input::is_restart(i) {
-        Fan {
-            drive: Drive { duty: 0, left: 0 },
-            run: 0,
-            alarmed: false,
-            alarm: false,
-            fault: false,
-        }
+        Fan::default()
     } else {
         was
     }
@@ -94,17 +88,13 @@ fn prior(i: Input, was: Fan) -> Fan
 fn judges(f: FanId, m: Context, d: Drive) -> bool
     ensures { result ≡ judges_fan f m d }
 {
-    if input::is_count(f, m.input) {
-        drive::judged(stored::tach_enabled(f, m.registers.config2), d)
-    } else {
-        false
-    }
+    input::is_count(f, m.input) && drive::judged(stored::tach_enabled(f, m.registers.config2), d)
 }
 
 fn fails(f: FanId, m: Context, judged: bool) -> bool
-    ensures { result ≡ failed_of judged (fan_registers_of m.registers f).limit (byte_in m.input) }
+    ensures { result ≡ failed_of judged (of_fan f m.registers.fans).limit (byte_in m.input) }
 {
-    let own = stored::fan_registers_of(m.registers, f);
+    let own = m.registers.fans.get(f);
     drive::failed(judged, own.limit, input::byte_in(m.input))
 }
 
@@ -129,6 +119,7 @@ fn run_after(tach: bool, judged: bool, failed: bool, was: u8) -> u8
 }
 
 // The fan after an event, from what is asked of it then and the fan before it.
+#[tactic(auto, unfolding(crate::specs::Fans::fan_under))]
 fn fan_under(f: FanId, s: Setting, m: Context, w: Fan) -> Fan
     ensures { result ≡ fan_under f s m w }
 {
@@ -147,7 +138,8 @@ fn fan_under(f: FanId, s: Setting, m: Context, w: Fan) -> Fan
 }
 
 // A fan under registers, pin and channels as they stand after the event.
-pub fn fan_after(f: FanId, pin_low: bool, m: Context, cs: Channels, was: Fan) -> Fan
+#[tactic(auto, unfolding(crate::specs::Fans::fan_after))]
+pub fn fan_after(f: FanId, pin_low: bool, m: Context, cs: PerChannel<Channel>, was: Fan) -> Fan
     ensures { result ≡ fan_after f pin_low m cs was }
 {
     fan_under(

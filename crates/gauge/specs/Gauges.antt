@@ -1,9 +1,8 @@
 -- T-06 of document 02, of a keeper as it stands: its panel.
-use Rattle.std.specs.Prelude.{ℕ, ◌-◌, cond, ltb, ℤ, pos, negsuc}
+use Rattle.std.specs.Prelude.{ℕ, ◌-◌, cond, ltb, ℤ, pos, negsuc, Result, Ok, Err}
 use Rattle.event.specs.declared.FanSpeed.{FanSpeed}
 use Rattle.event.specs.declared.Panel as panel
-use Rattle.event.specs.declared.Paneled.{Paneled}
-use Rattle.event.specs.declared.Paneled.TheVariants.{Panel, Refused}
+use Rattle.event.specs.declared.Refusal.{Refusal}
 use Rattle.event.specs.declared.Refusal.TheVariants.{NoPower}
 use Rattle.rules.specs.Panels.{degrees_of, speed_of}
 use Rattle.stored.specs.declared.FanRegisters.{FanRegisters}
@@ -25,12 +24,12 @@ panel_in k =
       local = degrees_of (unheld_of k.channels.local.reading);
       remote1 = degrees_of (unheld_of k.channels.remote1.reading);
       remote2 = degrees_of (unheld_of k.channels.remote2.reading);
-      fan1 = fan_speed_of k.registers.fan1;
-      fan2 = fan_speed_of k.registers.fan2;
+      fan1 = fan_speed_of k.registers.fans.one;
+      fan2 = fan_speed_of k.registers.fans.two;
     }
 
 -- 1 before power
-unfoldable pub paneled_of : Keeper → Paneled
+unfoldable pub paneled_of : Keeper → Result panel.Panel Refusal
 unfolding panel_in
-paneled_of Off = Refused NoPower
-paneled_of (On d) = Panel (panel_in d.chip)
+paneled_of Off = Err NoPower
+paneled_of (On d) = Ok (panel_in d.chip)

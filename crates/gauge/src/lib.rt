@@ -6,7 +6,7 @@ ghost use Rattle.rules.specs.Panels.{degrees_of, divisor_of, speed_of};
 ghost use Rattle.gauge.specs.Gauges.{unheld_of, fan_speed_of, panel_in, paneled_of};
 
 use chip::Chip;
-use event::{FanSpeed, Panel, Paneled, Refusal};
+use event::{FanSpeed, Panel, Refusal};
 use keeper::Keeper;
 use stored::FanRegisters;
 
@@ -14,25 +14,22 @@ use stored::FanRegisters;
 fn eighths(reading: u16) -> i32
     ensures { result ≡ unheld_of reading }
 {
-    if reading < 1024 {
-        -1 - (1023 - reading) as i32
-    } else {
-        (reading - 1024) as i32
-    }
+    i32::from(reading) - 1024
 }
 
 fn degrees(reading: u16) -> f64
     ensures { result ≡ degrees_of (unheld_of reading) }
 {
-    eighths(reading) as f64 / 8.0
+    f64::from(eighths(reading)) / 8.0
 }
 
 // The divisor of the speed range, by bits 7:6 of 0x20 or 0x21.
+// Stays: a code of the data sheet; an enum would be made of it by the same arms.
+#[tactic(auto, unfolding(rules::specs::Panels::divisor_of))]
 fn divisor(characteristics: u8) -> u32
     ensures { (result ≡ divisor_of characteristics) × (result ≤ 8) }
 {
-    let code = characteristics / 64;
-    match code {
+    match characteristics / 64 {
         0 => 1,
         1 => 2,
         2 => 4,
@@ -40,17 +37,15 @@ fn divisor(characteristics: u8) -> u32
     }
 }
 
+#[tactic(auto, unfolding(rules::specs::Panels::speed_of))]
 fn speed(count: u8, characteristics: u8) -> FanSpeed
     ensures { result ≡ speed_of count characteristics }
 {
-    if count == 0 {
-        return FanSpeed::NotMeasured;
+    match count {
+        0 => FanSpeed::NotMeasured,
+        255 => FanSpeed::Stalled,
+        _ => FanSpeed::Speed(675000.0 / f64::from(u32::from(count) * divisor(characteristics))),
     }
-    if count == 255 {
-        return FanSpeed::Stalled;
-    }
-    let product = count as u32 * divisor(characteristics);
-    FanSpeed::Speed(675000.0 / product as f64)
 }
 
 // Of a fan, by its registers as they stand.
@@ -60,6 +55,7 @@ fn fan_speed(r: FanRegisters) -> FanSpeed
     speed(r.speed, r.characteristics)
 }
 
+#[tactic(auto, unfolding(crate::specs::Gauges::panel_in))]
 fn panel_in(k: Chip) -> Panel
     ensures { result ≡ panel_in k }
 {
@@ -67,17 +63,15 @@ fn panel_in(k: Chip) -> Panel
         local: degrees(k.channels.local.reading),
         remote1: degrees(k.channels.remote1.reading),
         remote2: degrees(k.channels.remote2.reading),
-        fan1: fan_speed(k.registers.fan1),
-        fan2: fan_speed(k.registers.fan2),
+        fan1: fan_speed(k.registers.fans.one),
+        fan2: fan_speed(k.registers.fans.two),
     }
 }
 
 // 1 before the first power.
-pub fn panel(k: Keeper) -> Paneled
+pub fn panel(k: Keeper) -> Result<Panel, Refusal>
     ensures { result ≡ paneled_of k }
 {
-    match k {
-        Keeper::Off => Paneled::Refused(Refusal::NoPower),
-        Keeper::On(d) => Paneled::Panel(panel_in(d.chip)),
-    }
+    let device = k.device()?;
+    Ok(panel_in(device.chip))
 }

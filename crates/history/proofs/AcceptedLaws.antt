@@ -8,7 +8,7 @@ use native.Mathlib.Omega.{arith}
 use borrow.Author.Tests.{leb-true, lt-ltb}
 use Rattle.integer.proofs.BoolLaws.{by_cases, both}
 use Rattle.integer.specs.Range.{eighths_of}
-use Rattle.integer.specs.declared.Ranged.TheVariants.{In}
+use Rattle.std.specs.Prelude.{Some}
 use Rattle.event.specs.Kinds.{is_kind}
 use Rattle.event.specs.declared.Event.{Event}
 use Rattle.event.specs.declared.Kind.TheVariants as kind
@@ -17,13 +17,12 @@ use Rattle.rules.specs.Events.{who, arg, val, natural, register_given, byte_give
 use Rattle.rules.specs.Events.{restarts}
 use Rattle.rules.specs.Stored.{counts}
 use Rattle.rules.specs.Replies as replies
-use Rattle.rules.specs.Replies.{lowest, reply_to, accepts}
 use Rattle.rules.proofs.EventLaws.{who_lies, arg_lies, val_lies}
 use Rattle.input.specs.Inputs.{plain_of, eighths_held, input_of, byte_in, is_write, is_restart}
 use Rattle.stored.specs.Stored.{is_count_at}
 use Rattle.input.proofs.PlainLaws.{lies_plain, lies_number, count_is}
 
-pub in_range : (t : ℤ) → lies (from_to (negsuc 1023) (pos 1023)) t ≡ true → eighths_of t ≡ In (eighths_held t)
+pub in_range : (t : ℤ) → lies (from_to (negsuc 1023) (pos 1023)) t ≡ true → eighths_of t ≡ Some (eighths_held t)
 unfolding eighths_of
 in_range (pos n) z = rw (lt-ltb n 1024 (omega (arith, leb-true n 1023 z)))
 in_range (negsuc n) z = rw (lt-ltb n 1024 (omega (arith, leb-true n 1023 (both (leb n 1023) true z).0)))
@@ -65,5 +64,5 @@ module _ (e : Event) (fine : replies.out_of_range e ≡ false) where
   count_at_is a = rw (count_is _ e, count_is _ e)
 
   -- the eighths of a sample are within the range that is held
-  pub sample_held : is_kind kind.Sample e ≡ true → eighths_of (val e) ≡ In (eighths_held (val e))
+  pub sample_held : is_kind kind.Sample e ≡ true → eighths_of (val e) ≡ Some (eighths_held (val e))
   sample_held y = in_range (val e) (val_lies e fine 4 y)

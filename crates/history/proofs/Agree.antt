@@ -12,9 +12,9 @@ use Rattle.part.specs.declared.FanId.TheVariants.{One, Two}
 use Rattle.event.specs.Kinds.{is_kind, place_of, kind_of}
 use Rattle.event.specs.declared.Event.{Event}
 use Rattle.event.specs.declared.Kind.TheVariants as kind
-use Rattle.event.specs.declared.Answer.TheVariants.{Done}
+use Rattle.std.specs.Prelude.{Ok}
 use Rattle.rules.specs.Stored.{Taken, powered, own_address, stored_at, pointer, pin_low, diode_error, pulled_bit}
-use Rattle.rules.specs.Replies.{lowest, reply_to, accepts, History, taken}
+use Rattle.rules.specs.Replies.{reply_to, accepts, History, taken}
 use Rattle.rules.specs.Replies as replies
 use Rattle.rules.specs.Temperatures.{temperature, latch, therm_asserted, high_bit, low_bit, therm_bit}
 use Rattle.rules.specs.Targets.{flag, overridden}
@@ -79,10 +79,9 @@ module _ (e : Event) (d : Taken) (fine : replies.out_of_range e ≡ false) (smal
 -- a keeper that never had power has the device of the empty list
 device_in_lem : {d : Taken} → Took d → device_in (state_by d) ≡ device_by d
 device_in_lem none =
-    (unfold state_by device_by shows.silenced stamps_by stamp clocks fan_stamp powered chip_by port_by registers_by channel_registers_by fan_registers_by channels_by
-    channel_by fan_by own_address stored_at pointer pin_low diode_error pulled_bit temperature latch flag high_bit low_bit therm_bit eighths_of spin failures at_alarm
-    overridden therm_asserted alarm_bit fault_bit in
-    refl)
+    (unfold state_by device_by shows.silenced stamps_by stamp clocks fan_stamp powered chip_by port_by registers_by channel_registers_by fan_registers_by
+    channels_by channel_by fan_by own_address stored_at pointer pin_low diode_error pulled_bit temperature latch flag high_bit low_bit therm_bit eighths_of
+    spin failures at_alarm overridden therm_asserted alarm_bit fault_bit in refl)
 device_in_lem (more {e = e} {d = d} go t) = (unfold state_by in rw (on_after e d go))
 
 is_on_lem : (d : Taken) → is_on (state_by d) ≡ powered d
@@ -125,7 +124,7 @@ shows_is {d} t = by_cases (powered d) (λ on. rw on (shown_on d)) (λ off. rw of
 
 -- what an event is answered, what is shown after it, and the keeper then
 step_is : (e : Event) {d : Taken} → Took d → outcome_of (state_by d) e ≡ cond (accepts (reply_to e d))
-    (record { keeper = state_by (e ∷ d); answer = Done (cond (is_kind kind.Read e) (shows.value (pointer d) d) 0); shown = shows.shown (e ∷ d) })
+    (record { keeper = state_by (e ∷ d); answer = Ok (cond (is_kind kind.Read e) (shows.value (pointer d) d) 0); shown = shows.shown (e ∷ d) })
     (record { keeper = state_by d; answer = reply_to e d; shown = shows.shown d })
 unfolding outcome_of device_by
 step_is e {d} t =

@@ -68,9 +68,9 @@ lowest_here = (refl, below)
     below (suc (suc (suc j))) l y = absurd (omega arith)
 
 pub alert_witness : AlertWitness
-unfolding quiets Unanswered taken reply_to lowest ranges_of exists_at read_only_at mask_at reset_at says table powered own_address stored_at pointer pin_low diode_error
-    pulled_bit measured_z latch therm_asserted high_bit low_bit therm_bit overridden at_alarm alarm_bit failed fault_bit status byte_at value pending int_due some_risen
-    silenced int_asserted shown packed merged_of outside_in has_address twice_in asserts_in lowest_asserting row_answer row_after
+unfolding quiets Unanswered taken reply_to lowest ranges_of exists_at read_only_at mask_at reset_at says table powered own_address stored_at pointer pin_low
+    diode_error pulled_bit measured_z latch therm_asserted high_bit low_bit therm_bit overridden at_alarm alarm_bit failed fault_bit status byte_at value
+    pending int_due some_risen silenced int_asserted shown packed merged_of outside_in has_address twice_in asserts_in lowest_asserting row_answer row_after
 alert_witness =
     record {
       early = ((((tt, λ y go. refl), λ y go. refl), λ y go. refl), λ y go. refl);

@@ -9,8 +9,8 @@ use lib.ListN.{length, get_or, get_or-eq_default}
 use borrow.Author.Tests.{ltb-true, eqb-true, eqb-false, ne_eqb, lt-ltb, le-ltb}
 use Rattle.integer.proofs.BoolLaws.{by_cases}
 use Rattle.event.specs.Answers.{number_of, data_of}
-use Rattle.event.specs.declared.Answer.{Answer}
-use Rattle.event.specs.declared.Answer.TheVariants.{Done}
+use Rattle.event.specs.declared.Refusal.{Refusal}
+use Rattle.std.specs.Prelude.{Result, Ok}
 use Rattle.event.specs.declared.Event.{Event}
 use Rattle.rules.specs.Replies.{lowest, accepts}
 use Rattle.judge.proofs.RightLaws.{right}
@@ -24,11 +24,11 @@ use Rattle.history.specs.Demand1.{conditions, Applies, number, image_number, Dem
 abbrev test : Keeper → Event → ℕ → Bool
 test k e n = get_or (conditions k e) n false
 
-abbrev reply_of : Keeper → Event → Answer
+abbrev reply_of : Keeper → Event → Result ℕ Refusal
 reply_of k e = lowest (is_on k) (standing_of k).address (standing_of k).monitoring (standing_of k).error1 (standing_of k).error2 e
 
 -- of the numbers from m up, the answer has the lowest that applies, or 0 where none does; where it is not 0, the data is 0
-record Lowest (k : Keeper) (e : Event) (m : ℕ) (a : Answer) : Type 0 where
+record Lowest (k : Keeper) (e : Event) (m : ℕ) (a : Result ℕ Refusal) : Type 0 where
   given : 0 < number_of a → Applies k e (number_of a)
   lowest : (n : ℕ) → m ≤ n → Applies k e n → 0 < number_of a × number_of a ≤ n
   empty : 0 < number_of a → data_of a ≡ 0
@@ -37,7 +37,7 @@ module _ (k : Keeper) (e : Event) where
   untested : (n : ℕ) → test k e n ≡ false → Applies k e n → ⊥
   untested n f p = true≢false (sym p ∙ f)
 
-  last : Lowest k e 14 (Done 0)
+  last : Lowest k e 14 (Ok 0)
   last =
       record {
         given = λ h. absurd (omega arith);
@@ -46,7 +46,7 @@ module _ (k : Keeper) (e : Event) where
       }
 
   -- the test of an answer's number, before those of higher numbers
-  before : (a r : Answer) {m : ℕ} {t : Bool} → m ≡ number_of a → t ≡ test k e m → ltb 0 m ≡ true → data_of a ≡ 0 → Lowest k e (suc m) r
+  before : (a r : Result ℕ Refusal) {m : ℕ} {t : Bool} → m ≡ number_of a → t ≡ test k e m → ltb 0 m ≡ true → data_of a ≡ 0 → Lowest k e (suc m) r
       → Lowest k e m (cond t a r)
   before a r {m} {t} qm qt h d rest =
       by_cases t
@@ -61,7 +61,7 @@ module _ (k : Keeper) (e : Event) where
       }))
 
   -- a number that no event gets
-  past : (a : Answer) (m : ℕ) → test k e m ≡ false → Lowest k e (suc m) a → Lowest k e m a
+  past : (a : Result ℕ Refusal) (m : ℕ) → test k e m ≡ false → Lowest k e (suc m) a → Lowest k e m a
   past a m f rest =
       record {
         given = rest.given;
@@ -73,7 +73,7 @@ module _ (k : Keeper) (e : Event) where
       }
 
   -- 10, 11 and 12
-  gap : (a : Answer) → Lowest k e 13 a → Lowest k e 10 a
+  gap : (a : Result ℕ Refusal) → Lowest k e 13 a → Lowest k e 10 a
   gap a rest = past a 10 refl (past a 11 refl (past a 12 refl rest))
 
   chosen : Lowest k e 1 (reply_of k e)

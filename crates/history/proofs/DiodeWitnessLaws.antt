@@ -23,10 +23,10 @@ use Rattle.history.proofs.AlertWitnessLaws.{int_is}
 use Rattle.history.proofs.ReasonWitnessLaws.{told}
 
 pub diode_witness : DiodeWitness
-unfolding taken reply_to lowest ranges_of exists_at read_only_at mask_at reset_at says table powered own_address stored_at pointer pin_low diode_error pulled_bit
-    temperature latch therm_asserted high_bit low_bit therm_bit flag demand assigned_by target_of target overridden rate_of spin_up_of nearer duty_after spin_after spin
-    duty judged failed fault_bit at_alarm alarm_bit merged_of packed range_of measured_z status byte_at value pending int_due some_risen silenced int_asserted shown
-    answer reason_for why_for
+unfolding taken reply_to lowest ranges_of exists_at read_only_at mask_at reset_at says table powered own_address stored_at pointer pin_low diode_error
+    pulled_bit temperature latch therm_asserted high_bit low_bit therm_bit flag demand assigned_by target_of target overridden rate_of spin_up_of nearer
+    duty_after spin_after spin duty judged failed fault_bit at_alarm alarm_bit merged_of packed range_of measured_z status byte_at value pending int_due
+    some_risen silenced int_asserted shown answer reason_for why_for
 diode_witness =
     record {
       at_power = shown_is One powered_broken;

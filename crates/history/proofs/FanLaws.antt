@@ -10,7 +10,6 @@ use Rattle.integer.proofs.BoolLaws.{by_cases, both}
 use Rattle.part.specs.declared.ChannelId.{ChannelId}
 use Rattle.part.specs.declared.ChannelId.TheVariants.{Local, Remote1, Remote2}
 use Rattle.part.specs.declared.FanId.{FanId}
-use Rattle.part.specs.declared.FanId.TheVariants.{One, Two}
 use Rattle.event.specs.Kinds.{is_kind, place_of, kind_of}
 use Rattle.event.specs.declared.Event.{Event}
 use Rattle.event.specs.declared.Kind.TheVariants as kind
@@ -29,7 +28,8 @@ use Rattle.drive.specs.Drive.{duty_of, starts_of, left_of, drive_at, driven_of}
 use Rattle.drive.specs.Tach.{run_of}
 use Rattle.input.specs.Inputs.{eighths_held, input_of, bit_after}
 use Rattle.input.proofs.PlainLaws.{count_is, period_is}
-use Rattle.stored.specs.Stored.{fan_registers_of}
+use Rattle.part.specs.Each.{of_fan}
+use Rattle.part.proofs.Laws.{of_each_fan}
 use Rattle.fan.specs.Fans.{fan_target, setting_of, prior_fan, judges_fan, fails_fan, fan_input_of, fan_run, fan_under, fan_after}
 use Rattle.history.proofs.State.{channel_registers_by, fan_registers_by, registers_by, context_by, channel_by, channels_by, setting_by, drive_by, fan_by}
 use Rattle.history.proofs.AcceptedLaws.{counted_is, restart_is}
@@ -46,13 +46,9 @@ module _ (f : FanId) (d : Taken) where
   unfolding demand
   demand_is c = ap (cond (diode_error c d) 240) (faithful_demand (temperature c d) (eighths_held (temperature c d)) (held d c) _ _ _ _)
 
-  own_registers : fan_registers_of (registers_by d) f ≡ fan_registers_by f d
+  own_registers : of_fan f (registers_by d).fans ≡ fan_registers_by f d
   unfolding registers_by
-  own_registers = own f
-    where
-      own : (f : FanId) → fan_registers_of (registers_by d) f ≡ fan_registers_by f d
-      own One = refl
-      own Two = refl
+  own_registers = of_each_fan (λ f. fan_registers_by f d) f
 
   pub setting_is : setting_of f (pin_low d) (registers_by d) (channels_by d) ≡ setting_by f d
   unfolding setting_of fan_target setting_by target overridden therm_asserted registers_by channel_registers_by fan_registers_by channels_by channel_by

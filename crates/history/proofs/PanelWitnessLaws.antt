@@ -18,8 +18,8 @@ use Rattle.history.specs.PanelWitness.{monitoring44, metered, ranged_anew, Panel
 use Rattle.history.proofs.Agree.{agreement}
 
 pub panel_witness : PanelWitness
-unfolding taken reply_to lowest ranges_of exists_at read_only_at mask_at reset_at says table powered own_address stored_at diode_error temperature measured_z merged_of
-    quotient_of divisor_of speed_of figures panel_for round units odd size span climb count_trailing_zeros
+unfolding taken reply_to lowest ranges_of exists_at read_only_at mask_at reset_at says table powered own_address stored_at diode_error temperature measured_z
+    merged_of quotient_of divisor_of speed_of figures panel_for round units odd size span climb count_trailing_zeros
 panel_witness =
     record {
       start = record { is = (agreement monitoring44).panel };

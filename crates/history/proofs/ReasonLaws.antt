@@ -11,8 +11,10 @@ use Rattle.rules.specs.Stored.{Taken, powered, pin_low}
 use Rattle.rules.specs.Targets.{overridden}
 use Rattle.rules.specs.Duties.{spin, duty}
 use Rattle.rules.specs.Reasons.{lowest_with, asked, reason_for, why_for}
-use Rattle.reason.specs.Reasoning.{asking_in, reason_under, drive_of, reason_of, why_in, why_of}
-use Rattle.history.proofs.State.{port_by, channel_registers_by, registers_by, channel_by, channels_by, setting_by, drive_by, fan_by, chip_by, device_by, state_by}
+use Rattle.reason.specs.Reasoning.{asking_in, reason_under, reason_of, why_in, why_of}
+use Rattle.part.specs.Each.{of_fan}
+use Rattle.history.proofs.State.{port_by, channel_registers_by, registers_by, channel_by, channels_by, setting_by, drive_by, fan_by, chip_by}
+use Rattle.history.proofs.State.{device_by, state_by}
 use Rattle.history.proofs.FanLaws.{demand_is, setting_is}
 
 module _ (f : FanId) (d : Taken) where
@@ -25,7 +27,7 @@ module _ (f : FanId) (d : Taken) where
   unfolding reason_under reason_for setting_by chip_by port_by duty overridden
   under_is = by_cases (pin_low d) (λ low. rw low) (λ high. rw (high, asking_is) (unfold registers_by channels_by channel_by in refl))
 
-drive_is : (f : FanId) (d : Taken) → drive_of f (chip_by d) ≡ drive_by (spin f d)
+drive_is : (f : FanId) (d : Taken) → (of_fan f (chip_by d).fans).drive ≡ drive_by (spin f d)
 unfolding chip_by fan_by
 drive_is One d = refl
 drive_is Two d = refl

@@ -18,7 +18,8 @@ use Rattle.rules.specs.PageWords.{by_fan, tenth}
 use Rattle.rules.specs.PageReasons.{told_of}
 use Rattle.reason.specs.Reasoning.{why_of}
 use Rattle.history.specs.Agreement.{run}
-use Rattle.history.specs.ReasonWitness.{powered44, warm, low_and_disabled, hot_remote, hot_local, ramp_down, ramp_up, by_hand, spun, equal, ahead, ReasonWitness}
+use Rattle.history.specs.ReasonWitness.{powered44, warm, low_and_disabled, hot_remote, hot_local, ramp_down, ramp_up, by_hand, spun, equal, ahead}
+use Rattle.history.specs.ReasonWitness.{ReasonWitness}
 use Rattle.history.proofs.Agree.{agreement}
 
 -- what the program tells is what the rules say
@@ -26,9 +27,9 @@ pub told : (f : FanId) (h : History) → why_of (run h) (pos (by_fan 1 2 f)) ≡
 told f h = (agreement h).why (pos (by_fan 1 2 f))
 
 pub reason_witness : ReasonWitness
-unfolding taken reply_to lowest ranges_of exists_at read_only_at mask_at reset_at says table powered own_address stored_at pin_low temperature latch therm_asserted
-    diode_error flag demand assigned_by target_of target overridden rate_of spin_up_of nearer duty_after spin_after spin duty merged_of range_of measured_z
-    reason_for why_for
+unfolding taken reply_to lowest ranges_of exists_at read_only_at mask_at reset_at says table powered own_address stored_at pin_low temperature latch
+    therm_asserted diode_error flag demand assigned_by target_of target overridden rate_of spin_up_of nearer duty_after spin_after spin duty merged_of
+    range_of measured_z reason_for why_for
 reason_witness =
     record {
       disabled = told One low_and_disabled;

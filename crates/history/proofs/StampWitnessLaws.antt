@@ -11,7 +11,7 @@ use Rattle.part.specs.declared.FanId.{FanId}
 use Rattle.part.specs.declared.FanId.TheVariants.{One, Two}
 use Rattle.part.specs.declared.ChannelId.TheVariants.{Local}
 use Rattle.event.specs.Kinds.{is_kind}
-use Rattle.event.specs.declared.Aged.TheVariants.{Clocks}
+use Rattle.std.specs.Prelude.{Ok}
 use Rattle.event.specs.declared.Kind.TheVariants as kind
 use Rattle.rules.specs.Registers.{config2, says, table, exists_at, mask_at, reset_at, read_only_at}
 use Rattle.rules.specs.Events.{ranges_of}
@@ -87,12 +87,12 @@ module _ (h : History) (on : power_on h ≡ true) where
   unfolding stamp
   long_stamp n = rw (counts_on (tenths n) h (no_powers n h), all_count n)
 
-  long_age : (f : FanId) (n : ℕ) → AgeSince f h → aged_fan f (tenths n ++ h) ≡ Clocks (n % 65536)
+  long_age : (f : FanId) (n : ℕ) → AgeSince f h → aged_fan f (tenths n ++ h) ≡ Ok (n % 65536)
   long_age f n since = since.modulo (tenths n) (no_starts f n h) ∙ rw (all_count n)
 
 -- ---- the witnesses
 
-dated : (h : History) {now one two : ℕ} → stamp (taken h) ≡ now → aged_fan One h ≡ Clocks one → aged_fan Two h ≡ Clocks two → Dated h now one two
+dated : (h : History) {now one two : ℕ} → stamp (taken h) ≡ now → aged_fan One h ≡ Ok one → aged_fan Two h ≡ Ok two → Dated h now one two
 dated h p q r = record { stamp = (agreement h).stamp ∙ p; fan1 = (agreement h).age (pos 1) ∙ q; fan2 = (agreement h).age (pos 2) ∙ r }
 
 -- the list before the sample that starts both fans
@@ -100,8 +100,9 @@ abbrev waiting : History
 waiting = write (pos 44) (pos 0x00) (pos 0xF1) ∷ tenth ∷ tenth ∷ tenth ∷ powered44
 
 since_start : (f : FanId) → AgeSince f started_late
-unfolding taken reply_to lowest ranges_of exists_at read_only_at mask_at reset_at says table powered own_address stored_at pin_low temperature latch therm_asserted
-    diode_error flag demand assigned_by target_of target overridden rate_of spin_up_of nearer duty_after spin_after spin duty merged_of range_of measured_z shown
+unfolding taken reply_to lowest ranges_of exists_at read_only_at mask_at reset_at says table powered own_address stored_at pin_low temperature latch
+    therm_asserted diode_error flag demand assigned_by target_of target overridden rate_of spin_up_of nearer duty_after spin_after spin duty merged_of
+    range_of measured_z shown
 since_start One = (page_stamps waiting).started One (sampled Local (pos 320)) refl (omega arith)
 since_start Two = (page_stamps waiting).started Two (sampled Local (pos 320)) refl (omega arith)
 
@@ -117,13 +118,13 @@ long : Dated long_run 8 5 5
 long =
     dated long_run
     (long_stamp started_late late_on 65541 ∙ rw late_clocks (omega arith))
-    (long_age started_late late_on One 65541 (since_start One) ∙ ap Clocks (omega arith))
-    (long_age started_late late_on Two 65541 (since_start Two) ∙ ap Clocks (omega arith))
+    (long_age started_late late_on One 65541 (since_start One) ∙ ap Ok (omega arith))
+    (long_age started_late late_on Two 65541 (since_start Two) ∙ ap Ok (omega arith))
 
 pub stamp_witness : StampWitness
-unfolding taken reply_to lowest ranges_of exists_at read_only_at mask_at reset_at says table powered own_address stored_at pin_low temperature latch therm_asserted
-    diode_error flag demand assigned_by target_of target overridden rate_of spin_up_of nearer duty_after spin_after spin duty merged_of range_of measured_z
-    clocks stamp sets_stamp fan_stamp age age_for
+unfolding taken reply_to lowest ranges_of exists_at read_only_at mask_at reset_at says table powered own_address stored_at pin_low temperature latch
+    therm_asserted diode_error flag demand assigned_by target_of target overridden rate_of spin_up_of nearer duty_after spin_after spin duty merged_of
+    range_of measured_z clocks stamp sets_stamp fan_stamp age age_for
 stamp_witness =
     record {
       starts = dated started_late refl refl refl;

@@ -3,9 +3,7 @@ use Prim.Native.Nat.{min}
 use mathlib.Core.Bool.{cond}
 use mathlib.Core.List.{◌∷◌}
 use Rattle.part.specs.declared.ChannelId.{ChannelId}
-use Rattle.part.specs.declared.ChannelId.TheVariants.{Local, Remote1, Remote2}
 use Rattle.part.specs.declared.FanId.{FanId}
-use Rattle.part.specs.declared.FanId.TheVariants.{One, Two}
 use Rattle.event.specs.declared.Event.{Event}
 use Rattle.rules.specs.Registers as at
 use Rattle.rules.specs.Stored.{Taken, powered, own_address, stored_at, pointer, pin_low, diode_error, pulled_bit}
@@ -22,7 +20,8 @@ use Rattle.stored.specs.declared.FanRegisters.{FanRegisters}
 use Rattle.stored.specs.declared.Registers.{Registers}
 use Rattle.stored.specs.declared.Context.{Context}
 use Rattle.channel.specs.declared.Channel.{Channel}
-use Rattle.channel.specs.declared.Channels.{Channels}
+use Rattle.part.specs.declared.PerChannel.{PerChannel}
+use Rattle.part.specs.Each.{each_channel, each_fan}
 use Rattle.fan.specs.declared.Fan.{Fan}
 use Rattle.chip.specs.declared.Port.{Port}
 use Rattle.chip.specs.declared.Chip.{Chip}
@@ -57,11 +56,8 @@ registers_by d =
       speeds = stored_at at.speeds d;
       filter = stored_at at.filter d;
       behaviour = stored_at at.behaviour d;
-      local = channel_registers_by Local d;
-      remote1 = channel_registers_by Remote1 d;
-      remote2 = channel_registers_by Remote2 d;
-      fan1 = fan_registers_by One d;
-      fan2 = fan_registers_by Two d;
+      channels = each_channel (λ c. channel_registers_by c d);
+      fans = each_fan (λ f. fan_registers_by f d);
     }
 
 -- what moves a part at the event e after the accepted events d
@@ -81,8 +77,8 @@ channel_by c d =
       error = diode_error c d;
     }
 
-unfoldable pub channels_by : Taken → Channels
-channels_by d = record { local = channel_by Local d; remote1 = channel_by Remote1 d; remote2 = channel_by Remote2 d }
+unfoldable pub channels_by : Taken → PerChannel Channel
+channels_by d = each_channel (λ c. channel_by c d)
 
 -- what registers, pin and channels ask of a fan
 unfoldable pub setting_by : FanId → Taken → Setting
@@ -104,11 +100,11 @@ unfoldable pub fan_by : FanId → Taken → Fan
 fan_by f d = record { drive = drive_by (spin f d); run = min 5 (failures f d); alarmed = at_alarm f d; alarm = alarm_bit f d; fault = fault_bit f d }
 
 unfoldable pub chip_by : Taken → Chip
-chip_by d = record { port = port_by d; registers = registers_by d; channels = channels_by d; fan1 = fan_by One d; fan2 = fan_by Two d }
+chip_by d = record { port = port_by d; registers = registers_by d; channels = channels_by d; fans = each_fan (λ f. fan_by f d) }
 
 -- the stamps, which the rules count in the list
 unfoldable pub stamps_by : Taken → Stamps
-stamps_by d = record { now = stamp d; fan1 = fan_stamp One d; fan2 = fan_stamp Two d }
+stamps_by d = record { now = stamp d; starts = each_fan (λ f. fan_stamp f d) }
 
 unfoldable pub device_by : Taken → Device
 device_by d = record { chip = chip_by d; silenced = silenced d; stamps = stamps_by d }

@@ -7,7 +7,7 @@ use native.Mathlib.Omega.{arith}
 use lib.IntN.{pos}
 use Rattle.integer.proofs.BoolLaws.{by_cases, both}
 use Rattle.integer.specs.Range.{eighths_of}
-use Rattle.integer.specs.declared.Ranged.TheVariants.{In}
+use Rattle.std.specs.Prelude.{Some}
 use Rattle.part.specs.declared.ChannelId.{ChannelId}
 use Rattle.part.specs.declared.ChannelId.TheVariants.{Local, Remote1, Remote2}
 use Rattle.part.specs.declared.FanId.{FanId}
@@ -28,8 +28,11 @@ use Rattle.reading.proofs.FaithfulLaws.{faithful}
 use Rattle.reading.proofs.OffsetLaws.{faithful_offset}
 use Rattle.input.specs.Inputs.{eighths_held, input_of, bit_after}
 use Rattle.input.proofs.PlainLaws.{plain_is, sample_is, report_is}
-use Rattle.stored.specs.Stored.{stored_after, channel_bytes, fan_bytes, bytes, registers_after, channel_registers_of}
-use Rattle.channel.specs.Channels.{sampled_in, reading_after, flag_at_sample, latch_after, flag_after, clears_bit, status_bit_after, high_bit_after, low_bit_after}
+use Rattle.stored.specs.Stored.{stored_after, channel_bytes, fan_bytes, bytes, registers_after}
+use Rattle.part.specs.Each.{of_channel}
+use Rattle.part.proofs.Laws.{of_each_channel}
+use Rattle.channel.specs.Channels.{sampled_in, reading_after, flag_at_sample, latch_after, flag_after, clears_bit, status_bit_after, high_bit_after}
+use Rattle.channel.specs.Channels.{low_bit_after}
 use Rattle.channel.specs.Channels.{therm_bit_after, error_in, error_after, channel_after, channels_after}
 use Rattle.chip.specs.Chips.{port_after}
 use Rattle.history.proofs.State.{port_by, channel_registers_by, fan_registers_by, registers_by, context_by, channel_by, channels_by}
@@ -64,9 +67,11 @@ module _ (e : Event) (d : Taken) (fine : replies.out_of_range e ≡ false) where
       (λ c. rw (r, w, c, counted_is e fine (count_tach a e c)))
       (λ c. rw (r, w, c)))))
 
-  channel_registers_is : (c : ChannelId) → channel_bytes (λ a was. stored_after a (input_of e) was) c (channel_registers_by c d) ≡ channel_registers_by c (e ∷ d)
+  channel_registers_is : (c : ChannelId) → channel_bytes (λ a was. stored_after a (input_of e) was) c (channel_registers_by c d)
+      ≡ channel_registers_by c (e ∷ d)
   unfolding channel_bytes channel_registers_by
-  channel_registers_is c = rw (stored_is (offset_at c), stored_is (high_limit_at c), stored_is (low_limit_at c), stored_is (therm_limit_at c), stored_is (control_at c))
+  channel_registers_is c =
+      rw (stored_is (offset_at c), stored_is (high_limit_at c), stored_is (low_limit_at c), stored_is (therm_limit_at c), stored_is (control_at c))
 
   fan_registers_is : (f : FanId) → fan_bytes (λ a was. stored_after a (input_of e) was) f (fan_registers_by f d) ≡ fan_registers_by f (e ∷ d)
   unfolding fan_bytes fan_registers_by
@@ -102,17 +107,12 @@ module _ (e : Event) (d : Taken) (fine : replies.out_of_range e ≡ false) where
 -- ---- a channel
 
 module _ (e : Event) (d : Taken) (fine : replies.out_of_range e ≡ false) (small : (a : ℕ) → stored_at a (e ∷ d) < 256) (c : ChannelId) where
-  own_registers : channel_registers_of (registers_by (e ∷ d)) c ≡ channel_registers_by c (e ∷ d)
+  own_registers : of_channel c (registers_by (e ∷ d)).channels ≡ channel_registers_by c (e ∷ d)
   unfolding registers_by
-  own_registers = own c
-    where
-      own : (c : ChannelId) → channel_registers_of (registers_by (e ∷ d)) c ≡ channel_registers_by c (e ∷ d)
-      own Local = refl
-      own Remote1 = refl
-      own Remote2 = refl
+  own_registers = of_each_channel (λ c. channel_registers_by c (e ∷ d)) c
 
   -- an accepted sample is held as what it is, and so is the reading that it makes
-  sampled_held : samples c e ≡ true → eighths_of (measured c e d) ≡ In (sampled_in c (context_by e d))
+  sampled_held : samples c e ≡ true → eighths_of (measured c e d) ≡ Some (sampled_in c (context_by e d))
   unfolding sampled_in channel_registers_by
   sampled_held y =
       rw own_registers

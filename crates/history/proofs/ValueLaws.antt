@@ -86,8 +86,8 @@ module _ (d : Taken) (v : stored_at device d ≡ 0x31) (c : stored_at company d 
   extended_same = rw ((stands d Local).rest, (stands d Remote1).rest, (stands d Remote2).rest)
 
   rows_same : All Same table
-  unfolding table register_at value byte_at exists_at stored_in cells found chip_by port_by fan_by registers_by channel_registers_by fan_registers_by channels_by
-      channel_by status_of status
+  unfolding table register_at value byte_at exists_at stored_in cells found chip_by port_by fan_by registers_by channel_registers_by fan_registers_by
+      channels_by channel_by status_of status
   rows_same =
       refl ▹ refl ▹ refl ▹ refl ▹ extended_same ▹ refl ▹ refl ▹ refl ▹ (stands d Local).whole ▹ (stands d Remote1).whole ▹ (stands d Remote2).whole
       ▹ refl ▹ refl ▹ refl ▹ refl ▹ refl ▹ refl ▹ refl ▹ refl ▹ refl ▹ refl ▹ refl ▹ refl ▹ refl ▹ refl ▹ refl ▹ refl ▹ refl ▹ refl ▹ refl ▹ refl ▹ refl

@@ -60,8 +60,8 @@ standing f d s h y = still.stretch f d s h (moving f d d s h y)
 
 pub witness : Witness
 unfolding stretches aims disturbs periods_in outside taken reply_to lowest ranges_of exists_at read_only_at mask_at reset_at says table powered own_address
-    stored_at pointer pin_low diode_error temperature latch therm_asserted flag demand assigned_by target_of target overridden rate_of spin_up_of nearer duty_after
-    spin_after spin duty judged failed failures merged_of range_of measured_z
+    stored_at pointer pin_low diode_error temperature latch therm_asserted flag demand assigned_by target_of target overridden rate_of spin_up_of nearer
+    duty_after spin_after spin duty judged failed failures merged_of range_of measured_z
 witness =
     record {
       stretch = standing One 80 (ramped_down ++ spun_up) started_filtered refl;

@@ -6,15 +6,15 @@ use Rattle.rules.specs.Replies.{History, taken}
 use Rattle.rules.specs.Duties.{left, spin, duty, failures}
 use Rattle.rules.specs.Stamps.{stamp, fan_stamp}
 use Rattle.fan.specs.declared.Fan.{Fan}
-use Rattle.device.specs.Stamping.{start_stamp}
+use Rattle.part.specs.Each.{of_fan}
 use Rattle.device.specs.declared.Stamps.{Stamps}
 use Rattle.keeper.specs.Keeping.{device_in, chip_in}
 use Rattle.history.specs.Agreement.{run}
 
 -- the engine's fan, and its stamps, after the list
 abbrev pub fan_in : FanId → History → Fan
-fan_in One h = (chip_in (run h)).fan1
-fan_in Two h = (chip_in (run h)).fan2
+fan_in One h = (chip_in (run h)).fans.one
+fan_in Two h = (chip_in (run h)).fans.two
 
 abbrev pub stamps_in : History → Stamps
 stamps_in h = (device_in (run h)).stamps
@@ -28,4 +28,4 @@ pub record Counts (h : History) : Type 0 where
   pub duty : (f : FanId) → (fan_in f h).drive.duty ≡ duty f (taken h)
   -- the stamps: the clock events accepted since power, and for each fan those when it last started, modulo 65,536 (T-07)
   pub stamp : (stamps_in h).now ≡ stamp (taken h)
-  pub started : (f : FanId) → start_stamp f (stamps_in h) ≡ fan_stamp f (taken h)
+  pub started : (f : FanId) → of_fan f (stamps_in h).starts ≡ fan_stamp f (taken h)

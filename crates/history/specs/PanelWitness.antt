@@ -1,11 +1,10 @@
 -- T-06 speaks of something: lists of events, and the panel after each. An f64 is written as m times 2 ^ e, `negsuc n` being -(n + 1).
-use Rattle.std.specs.Prelude.{◌≡◌, true, false, [], ◌∷◌, pos, negsuc, Float}
+use Rattle.std.specs.Prelude.{◌≡◌, true, false, [], ◌∷◌, pos, negsuc, Float, Ok}
 use Rattle.std.specs.Float.{fin}
 use Rattle.part.specs.declared.ChannelId.TheVariants.{Local, Remote1, Remote2}
 use Rattle.part.specs.declared.FanId.TheVariants.{One, Two}
 use Rattle.event.specs.declared.FanSpeed.{FanSpeed}
 use Rattle.event.specs.declared.FanSpeed.TheVariants.{NotMeasured, Stalled, Speed}
-use Rattle.event.specs.declared.Paneled.TheVariants.{Panel}
 use Rattle.rules.specs.Replies.{History}
 use Rattle.rules.specs.PageWords.{power, write, sampled, reported, counted}
 use Rattle.gauge.specs.Gauges.{paneled_of}
@@ -13,7 +12,7 @@ use Rattle.history.specs.Agreement.{run}
 
 -- what the program's panel is after a list
 pub record Gauged (h : History) (local remote1 remote2 : Float) (fan1 fan2 : FanSpeed) : Type 0 where
-  pub is : paneled_of (run h) ≡ Panel (record { local = local; remote1 = remote1; remote2 = remote2; fan1 = fan1; fan2 = fan2 })
+  pub is : paneled_of (run h) ≡ Ok (record { local = local; remote1 = remote1; remote2 = remote2; fan1 = fan1; fan2 = fan2 })
 
 -- power at address 44, and monitoring (0x00)
 abbrev pub monitoring44 : History

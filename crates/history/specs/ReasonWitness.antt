@@ -1,11 +1,10 @@
 -- T-03 speaks of something: lists of events after which each of the reasons is told.
-use Rattle.std.specs.Prelude.{◌≡◌, true, false, [], ◌∷◌, pos}
+use Rattle.std.specs.Prelude.{◌≡◌, true, false, [], ◌∷◌, pos, Ok}
 use Rattle.part.specs.declared.ChannelId.TheVariants.{Local, Remote1, Remote2}
 use Rattle.part.specs.declared.FanId.{FanId}
 use Rattle.part.specs.declared.FanId.TheVariants.{One, Two}
 use Rattle.event.specs.declared.Reason.{Reason}
 use Rattle.event.specs.declared.Reason.TheVariants as reason
-use Rattle.event.specs.declared.Why.TheVariants.{Because}
 use Rattle.rules.specs.Replies.{History}
 use Rattle.rules.specs.PageWords.{power, write, sampled, turned, pulled_low, tenth, by_fan}
 use Rattle.reason.specs.Reasoning.{why_of}
@@ -13,7 +12,7 @@ use Rattle.history.specs.Agreement.{run}
 
 -- what the program tells of a fan
 abbrev pub Tells : FanId → History → Reason → Type 0
-Tells f h r = why_of (run h) (pos (by_fan 1 2 f)) ≡ Because r
+Tells f h r = why_of (run h) (pos (by_fan 1 2 f)) ≡ Ok r
 
 -- power at address 44; spin-ups of 2 clocks (0x20, 0x21)
 abbrev pub powered44 : History

@@ -1,8 +1,7 @@
 -- T-07 speaks of something: lists of events, with the stamp and the ages after each; one of them is so long that the ages are small again.
-use Rattle.std.specs.Prelude.{ℕ, zero, suc, ◌≡◌, List, [], ◌∷◌, ◌++◌, pos}
+use Rattle.std.specs.Prelude.{ℕ, zero, suc, ◌≡◌, List, [], ◌∷◌, ◌++◌, pos, Ok}
 use Rattle.part.specs.declared.FanId.TheVariants.{One}
 use Rattle.part.specs.declared.ChannelId.TheVariants.{Local}
-use Rattle.event.specs.declared.Aged.TheVariants.{Clocks}
 use Rattle.event.specs.declared.Event.{Event}
 use Rattle.rules.specs.Replies.{History}
 use Rattle.rules.specs.PageWords.{power, write, clock, sampled, tenth}
@@ -16,8 +15,8 @@ use Rattle.history.specs.ReasonWitness.{powered44}
 -- what the program tells after a list: the stamp, and the ages of both fans
 pub record Dated (h : History) (now age1 age2 : ℕ) : Type 0 where
   pub stamp : stamp_by (run h) ≡ now
-  pub fan1 : aged_of (run h) (pos 1) ≡ Clocks age1
-  pub fan2 : aged_of (run h) (pos 2) ≡ Clocks age2
+  pub fan1 : aged_of (run h) (pos 1) ≡ Ok age1
+  pub fan2 : aged_of (run h) (pos 2) ≡ Ok age2
 
 -- so many clock events
 unfoldable pub tenths : ℕ → List Event

@@ -1,7 +1,5 @@
 // A panel as numbers: three temperatures and two speeds, and the case of each speed.
-// What would stand past the end is dropped; who must not lose any looks for room first.
-ghost use Rattle.std.specs.Prelude.{◌≡◌, [], ◌∷◌, set};
-ghost use Rattle.std.proofs.lemmas.List.Edits.{sets};
+ghost use Rattle.std.specs.Prelude.{◌≡◌};
 ghost use Rattle.imager.specs.Figures.{speed_figure, speed_case, panel_figures, panel_cases};
 
 use event::{FanSpeed, Panel};
@@ -17,6 +15,7 @@ fn speed_figure(s: FanSpeed) -> f64
     }
 }
 
+// Stays: C takes the case as a number.
 fn speed_case(s: FanSpeed) -> u8
     ensures { result ≡ speed_case s }
 {
@@ -27,44 +26,20 @@ fn speed_case(s: FanSpeed) -> u8
     }
 }
 
-// A figure at an index, where it has room.
-fn put_figure(x: f64, figures: &mut [f64], at: usize)
-    ensures { figures.new ≡ set figures.old at x }
+pub fn panel_figures(p: Panel) -> [f64; 5]
+    ensures { result ≡ panel_figures p }
 {
-    if at < figures.len() {
-        figures[at] = x;
-    }
+    [
+        p.local,
+        p.remote1,
+        p.remote2,
+        speed_figure(p.fan1),
+        speed_figure(p.fan2),
+    ]
 }
 
-fn put_temperatures(p: Panel, figures: &mut [f64])
-    ensures { figures.new ≡ sets figures.old 0 (p.local ∷ p.remote1 ∷ p.remote2 ∷ []) }
+pub fn panel_cases(p: Panel) -> [u8; 2]
+    ensures { result ≡ panel_cases p }
 {
-    put_figure(p.local, figures, 0);
-    put_figure(p.remote1, figures, 1);
-    put_figure(p.remote2, figures, 2);
-}
-
-fn put_speeds(one: FanSpeed, two: FanSpeed, figures: &mut [f64])
-    ensures { figures.new ≡ sets figures.old 3 (speed_figure one ∷ speed_figure two ∷ []) }
-{
-    put_figure(speed_figure(one), figures, 3);
-    put_figure(speed_figure(two), figures, 4);
-}
-
-pub fn put_figures(p: Panel, figures: &mut [f64])
-    ensures { figures.new ≡ sets figures.old 0 (panel_figures p) }
-{
-    let one = p.fan1;
-    let two = p.fan2;
-    put_temperatures(p, figures);
-    put_speeds(one, two, figures);
-}
-
-pub fn put_cases(p: Panel, cases: &mut [u8])
-    ensures { cases.new ≡ sets cases.old 0 (panel_cases p) }
-{
-    let one = p.fan1;
-    let two = p.fan2;
-    let bytes = [speed_case(one), speed_case(two)];
-    buffer::put_bytes(&bytes, cases, 0);
+    [speed_case(p.fan1), speed_case(p.fan2)]
 }

@@ -1,9 +1,8 @@
 -- An event as plain numbers, and what it is to a part of the chip. The agreement holds these tests to those of the rules.
 use Rattle.std.specs.Prelude.{ℕ, ◌%◌, Bool, true, false, cond, ◌&&◌, ◌||◌, eqb, ℤ, pos, negsuc}
+use Rattle.std.specs.Option.{unwrap_or}
 use Rattle.integer.specs.Bits.{bit_of}
 use Rattle.integer.specs.Range.{eighths_of}
-use Rattle.integer.specs.declared.Ranged.{Ranged}
-use Rattle.integer.specs.declared.Ranged.TheVariants.{In, Out}
 use Rattle.part.specs.declared.ChannelId.{ChannelId}
 use Rattle.part.specs.declared.FanId.{FanId}
 use Rattle.event.specs.Kinds.{kind_of, place_of, numbers_of}
@@ -19,18 +18,14 @@ abbrev pub plain_of : ℤ → ℕ
 plain_of (pos n) = n
 plain_of (negsuc n) = 2147483648
 
-abbrev pub inside_or : (none : ℕ) → Ranged → ℕ
-inside_or none (In n) = n
-inside_or none Out = none
-
 -- eighths of a degree from -1024 to 1023, with 1024 added; 2048 stands for every other number
 abbrev pub eighths_held : ℤ → ℕ
-eighths_held t = inside_or 2048 (eighths_of t)
+eighths_held t = unwrap_or (eighths_of t) 2048
 
 abbrev pub input_of : Event → Input
 input_of e =
     record {
-      kind = place_of (kind_of e);
+      kind = kind_of e;
       who = plain_of (numbers_of e).who;
       arg = plain_of (numbers_of e).arg;
       val = plain_of (numbers_of e).val;
@@ -38,7 +33,7 @@ input_of e =
     }
 
 abbrev pub is_a : Kind → Input → Bool
-is_a k i = eqb i.kind (place_of k)
+is_a k i = eqb (place_of i.kind) (place_of k)
 
 -- the byte that a write or a count carries
 abbrev pub byte_in : Input → ℕ

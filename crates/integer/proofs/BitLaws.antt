@@ -1,11 +1,19 @@
--- A merged byte has each bit from where the mask says. Assumes nothing.
-use Prim.Native.Nat.{ℕ, zero, suc, ◌-◌, ◌/◌, ◌%◌, ◌^◌, ◌<◌}
-use mathlib.Core.Bool.{cond}
+-- A byte has no bit past place 7; a merged byte has each bit from where the mask says. Assumes nothing.
+use Prim.Native.Nat.{ℕ, zero, suc, ◌-◌, ◌/◌, ◌%◌, ◌^◌, ◌<◌, ◌≤◌}
+use mathlib.Core.Bool.{cond, false}
 use mathlib.Core.Path.{◌≡◌, refl, ap, ◌∙◌}
 use native.Mathlib.Omega.{arith}
+use native.Mathlib.Nat.{div-eq_of_lt}
+use lib.Pow.{pow_mono}
 use lib.Bits.{bit_and, bit_or, and_shr, or_shr, and_mod, or_mod}
 use lib.Dec.{eqb}
 use Rattle.integer.specs.Bits.{bit_of, merged_of}
+
+pub no_bit : (byte place : ℕ) → byte < 256 → 8 ≤ place → bit_of byte place ≡ false
+no_bit byte place h l =
+    let p : 2 ^ 8 ≤ 2 ^ place = pow_mono {i = 8} l in
+    let z : byte / 2 ^ place ≡ 0 = div-eq_of_lt (omega arith) in
+    rw z
 
 -- what holds of each place from 0 to 7
 at_eight : (P : ℕ → Type 0) → P 0 → P 1 → P 2 → P 3 → P 4 → P 5 → P 6 → P 7 → (p : ℕ) → p < 8 → P p

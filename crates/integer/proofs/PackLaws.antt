@@ -1,5 +1,5 @@
 -- A packed byte gives each of its bits back, and what a mask leaves of it: tests of all the bytes, computed. Assumes nothing.
-use Prim.Native.Nat.{ℕ, zero, suc, ◌<◌}
+use Prim.Native.Nat.{ℕ, zero, suc, ◌+◌, ◌*◌, ◌<◌}
 use mathlib.Core.Path.{◌≡◌, refl, sym}
 use mathlib.Core.Bool.{Bool, true, false, cond, not, ◌&&◌, ◌||◌}
 use mathlib.Core.List.{[], ◌∷◌}
@@ -8,7 +8,7 @@ use lib.Bits.{bit_and}
 use lib.Dec.{ltb}
 use lib.ListN.{get_or}
 use borrow.Author.Tests.{ltb-true}
-use Rattle.integer.specs.Bits.{bit_of, packed}
+use Rattle.integer.specs.Bits.{bit_of, flag_of, weighed, packed}
 use Rattle.integer.proofs.BoolLaws.{both}
 
 -- ---- what passes at both truth values holds of each; and so for two, four and eight of them
@@ -63,6 +63,19 @@ same_is false true h = h
 same_is false false h = refl
 
 -- ---- the packed byte
+
+-- a bit times its weight
+scaled : (b : Bool) (weight : ℕ) → flag_of b * weight ≡ weighed b weight
+scaled true weight = omega arith
+scaled false weight = omega arith
+
+pub summed :
+    (b0 b1 b2 b3 b4 b5 b6 b7 : Bool) →
+    flag_of b0 + flag_of b1 * 2 + flag_of b2 * 4 + flag_of b3 * 8 + flag_of b4 * 16 + flag_of b5 * 32 + flag_of b6 * 64 + flag_of b7 * 128
+    ≡ packed b0 b1 b2 b3 b4 b5 b6 b7
+unfolding packed
+summed b0 b1 b2 b3 b4 b5 b6 b7 =
+    rw (← scaled b1 2, ← scaled b2 4, ← scaled b3 8, ← scaled b4 16, ← scaled b5 32, ← scaled b6 64, ← scaled b7 128) refl
 
 abbrev given_back : (b0 b1 b2 b3 b4 b5 b6 b7 : Bool) (k : ℕ) → Bool
 given_back b0 b1 b2 b3 b4 b5 b6 b7 k = same (bit_of (packed b0 b1 b2 b3 b4 b5 b6 b7) k) (get_or (b0 ∷ b1 ∷ b2 ∷ b3 ∷ b4 ∷ b5 ∷ b6 ∷ b7 ∷ []) k false)

@@ -1,12 +1,13 @@
 -- The replies in plain numbers: the tests of the rules, as the code makes them. `Right` holds them to the rules.
-use Rattle.std.specs.Prelude.{ℕ, ◌%◌, ◌<◌, ◌≡◌, Bool, cond, not, ◌&&◌, ◌||◌, leb, eqb, get_or}
+use Rattle.std.specs.Prelude.{ℕ, ◌%◌, ◌<◌, ◌≡◌, Bool, cond, not, ◌&&◌, ◌||◌, leb, eqb, get_or, Result, Ok, Err}
 use Rattle.std.specs.Int.Signed.{non_neg}
 use Rattle.part.specs.declared.ChannelId.TheVariants.{Remote1, Remote2}
-use Rattle.event.specs.declared.Answer.{Answer}
-use Rattle.event.specs.declared.Answer.TheVariants.{Done, Refused}
+use Rattle.event.specs.declared.Refusal.{Refusal}
 use Rattle.event.specs.declared.Refusal.TheVariants.{NoPower, OtherAddress, NoSuchPart, NoSuchRegister, ReadOnly, OutOfRange, BadRangeCode, OddLocal}
 use Rattle.event.specs.declared.Refusal.TheVariants.{NotMonitoring, BrokenDiode}
 use Rattle.event.specs.declared.Event.{Event}
+use Rattle.event.specs.Kinds.{place_of}
+use Rattle.event.specs.declared.Kind.{Kind}
 use Rattle.event.specs.declared.Kind.TheVariants as kind
 use Rattle.rules.specs.Registers.{exists_at, read_only_at}
 use Rattle.rules.specs.Fields.{range_code}
@@ -28,8 +29,8 @@ plain_ranges r =
       sample = cond (non_neg r.val.low) 2048 2047;
     }
 
-unfoldable pub row_of : (kind : ℕ) → PlainRanges
-row_of k = plain_ranges (get_or carried k (ranges unused unused unused))
+unfoldable pub row_of : Kind → PlainRanges
+row_of k = plain_ranges (get_or carried (place_of k) (ranges unused unused unused))
 
 abbrev pub fits_row : PlainRanges → Input → Bool
 fits_row r i =
@@ -72,18 +73,18 @@ abbrev pub broken_diode_in : Standing → Input → Bool
 broken_diode_in s i = (is_sample Remote1 i && s.error1) || (is_sample Remote2 i && s.error2)
 
 -- the lowest that applies
-unfoldable pub lowest_in : Standing → Input → Answer
+unfoldable pub lowest_in : Standing → Input → Result ℕ Refusal
 lowest_in s i =
-    cond (no_power_in s i) (Refused NoPower)
-    (cond (other_address_in s i) (Refused OtherAddress)
-    (cond (no_part_in i) (Refused NoSuchPart)
-    (cond (no_register_in i) (Refused NoSuchRegister)
-    (cond (read_only_in i) (Refused ReadOnly)
-    (cond (out_of_range_in i) (Refused OutOfRange)
-    (cond (bad_code_in i) (Refused BadRangeCode)
-    (cond (odd_local_in i) (Refused OddLocal)
-    (cond (not_monitoring_in s i) (Refused NotMonitoring)
-    (cond (broken_diode_in s i) (Refused BrokenDiode) (Done 0))))))))))
+    cond (no_power_in s i) (Err NoPower)
+    (cond (other_address_in s i) (Err OtherAddress)
+    (cond (no_part_in i) (Err NoSuchPart)
+    (cond (no_register_in i) (Err NoSuchRegister)
+    (cond (read_only_in i) (Err ReadOnly)
+    (cond (out_of_range_in i) (Err OutOfRange)
+    (cond (bad_code_in i) (Err BadRangeCode)
+    (cond (odd_local_in i) (Err OddLocal)
+    (cond (not_monitoring_in s i) (Err NotMonitoring)
+    (cond (broken_diode_in s i) (Err BrokenDiode) (Ok 0))))))))))
 
 -- the reply is that of the rules, for every event with every number; an address is a byte
 abbrev pub Right : Type 0

@@ -7,11 +7,12 @@ ghost use Rattle.std.specs.Prelude.{◌≡◌};
 ghost use Rattle.judge.specs.Judged.{fits_row, no_power_in, other_address_in, no_part_in, no_register_in, read_only_in, out_of_range_in, bad_code_in};
 ghost use Rattle.judge.specs.Judged.{odd_local_in, not_monitoring_in, broken_diode_in, lowest_in};
 
-use event::{Answer, Kind, Refusal};
+use event::{Kind, Refusal};
 use input::Input;
 use part::ChannelId;
 
 // What of the past a reply asks.
+// Stays: `on` beside the rest, since the theorem `Right` speaks of the reply of every standing, of one that is off with any address too.
 #[derive(Clone, Copy)]
 pub struct Standing {
     pub on: bool,
@@ -34,8 +35,7 @@ pub struct PlainRanges {
 fn fits_row(r: PlainRanges, i: Input) -> bool
     ensures { result ≡ fits_row r i }
 {
-    ((r.low <= i.who) & (i.who <= r.high))
-        & ((i.arg <= r.arg) & ((i.val <= r.val) & (i.sample <= r.sample)))
+    (r.low..=r.high).contains(&i.who) & (i.arg <= r.arg) & (i.val <= r.val) & (i.sample <= r.sample)
 }
 
 // ---- when each number applies
@@ -49,39 +49,31 @@ fn no_power(s: Standing, i: Input) -> bool
 fn other_address(s: Standing, i: Input) -> bool
     ensures { result ≡ other_address_in s i }
 {
-    (input::is_a(Kind::Write, i)
-        | (input::is_a(Kind::Point, i)
-            | (input::is_a(Kind::Read, i) | input::is_a(Kind::Alert, i))))
-        & !(i.who == s.address as u32)
+    matches!(i.kind, Kind::Write | Kind::Point | Kind::Read | Kind::Alert)
+        & (i.who != u32::from(s.address))
 }
 
 fn no_part(i: Input) -> bool
     ensures { result ≡ no_part_in i }
 {
-    (input::is_a(Kind::Sample, i) & !(i.who <= 2))
-        | ((input::is_a(Kind::Tach, i)
-            | (input::is_a(Kind::Period, i) | input::is_a(Kind::Diode, i)))
-            & !((1 <= i.who) & (i.who <= 2)))
+    match i.kind {
+        Kind::Sample => i.who > 2,
+        Kind::Tach | Kind::Period | Kind::Diode => !(1..=2).contains(&i.who),
+        _ => false,
+    }
 }
 
 fn no_register(i: Input) -> bool
     ensures { result ≡ no_register_in i }
 {
-    if input::is_a(Kind::Write, i) | input::is_a(Kind::Point, i) {
-        !((i.arg <= 255) & register::exists_at((i.arg % 256) as u8))
-    } else {
-        false
-    }
+    matches!(i.kind, Kind::Write | Kind::Point)
+        && !u8::try_from(i.arg).is_ok_and(register::exists_at)
 }
 
 fn read_only(i: Input) -> bool
     ensures { result ≡ read_only_in i }
 {
-    if input::is_a(Kind::Write, i) {
-        register::read_only_at((i.arg % 256) as u8)
-    } else {
-        false
-    }
+    input::is_a(Kind::Write, i) && register::read_only_at((i.arg % 256) as u8)
 }
 
 fn out_of_range(i: Input) -> bool
@@ -93,20 +85,19 @@ fn out_of_range(i: Input) -> bool
 fn bad_code(i: Input) -> bool
     ensures { result ≡ bad_code_in i }
 {
-    input::is_a(Kind::Write, i)
-        & (((0x24 <= i.arg) & (i.arg <= 0x26)) & (5 <= input::byte_in(i) % 8))
+    input::is_a(Kind::Write, i) & (0x24..=0x26).contains(&i.arg) & (5 <= input::byte_in(i) % 8)
 }
 
 fn odd_local(i: Input) -> bool
     ensures { result ≡ odd_local_in i }
 {
-    input::is_a(Kind::Sample, i) & ((i.who == 0) & (i.sample % 2 == 1))
+    input::is_sample(ChannelId::Local, i) & (i.sample % 2 == 1)
 }
 
 fn not_monitoring(s: Standing, i: Input) -> bool
     ensures { result ≡ not_monitoring_in s i }
 {
-    (input::is_a(Kind::Sample, i) | input::is_a(Kind::Tach, i)) & !s.monitoring
+    matches!(i.kind, Kind::Sample | Kind::Tach) & !s.monitoring
 }
 
 // A sample of a channel whose diode is in error.
@@ -120,30 +111,32 @@ fn broken_diode(s: Standing, i: Input) -> bool
 // ---- the reply
 
 // The lowest number that applies.
-pub fn reply(s: Standing, i: Input) -> Answer
+// Stays: `Ok(0)`, where `Ok(())` would do, since the theorem `Right` has it equal the rules' `lowest`, which accepts by `Ok 0`.
+#[tactic(auto, using(crate::proofs::Laws::given, crate::proofs::Laws::passed), unfolding(crate::specs::Judged::lowest_in))]
+pub fn reply(s: Standing, i: Input) -> Result<u8, Refusal>
     ensures { result ≡ lowest_in s i }
 {
     if no_power(s, i) {
-        Answer::Refused(Refusal::NoPower)
+        Err(Refusal::NoPower)
     } else if other_address(s, i) {
-        Answer::Refused(Refusal::OtherAddress)
+        Err(Refusal::OtherAddress)
     } else if no_part(i) {
-        Answer::Refused(Refusal::NoSuchPart)
+        Err(Refusal::NoSuchPart)
     } else if no_register(i) {
-        Answer::Refused(Refusal::NoSuchRegister)
+        Err(Refusal::NoSuchRegister)
     } else if read_only(i) {
-        Answer::Refused(Refusal::ReadOnly)
+        Err(Refusal::ReadOnly)
     } else if out_of_range(i) {
-        Answer::Refused(Refusal::OutOfRange)
+        Err(Refusal::OutOfRange)
     } else if bad_code(i) {
-        Answer::Refused(Refusal::BadRangeCode)
+        Err(Refusal::BadRangeCode)
     } else if odd_local(i) {
-        Answer::Refused(Refusal::OddLocal)
+        Err(Refusal::OddLocal)
     } else if not_monitoring(s, i) {
-        Answer::Refused(Refusal::NotMonitoring)
+        Err(Refusal::NotMonitoring)
     } else if broken_diode(s, i) {
-        Answer::Refused(Refusal::BrokenDiode)
+        Err(Refusal::BrokenDiode)
     } else {
-        Answer::Done(0)
+        Ok(0)
     }
 }

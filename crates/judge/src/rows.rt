@@ -1,8 +1,9 @@
-// What the numbers of each kind may be, by its place in the table of kinds.
+// What the numbers of each kind may be.
 ghost use Rattle.std.specs.Prelude.{◌≡◌};
 ghost use Rattle.judge.specs.Judged.{row_of};
 
 use super::PlainRanges;
+use event::Kind;
 
 // The largest byte: of a register's address, a value, a count.
 const BYTE: u32 = 255;
@@ -10,110 +11,38 @@ const BYTE: u32 = 255;
 // Any sample, and the mark of a number that is none.
 const ANY: u16 = 2048;
 
-const ROWS: [PlainRanges; 11] = [
-    // power
+// The row of a kind whose val is no sample's: who from low to high, arg and val from 0 to theirs.
+fn row(low: u32, high: u32, arg: u32, val: u32) -> PlainRanges
+    ensures { result ≡ record { low = low; high = high; arg = arg; val = val; sample = 2048 } }
+{
     PlainRanges {
-        low: 44,
-        high: 46,
-        arg: 1,
-        val: 1,
+        low,
+        high,
+        arg,
+        val,
         sample: ANY,
-    },
-    // write
-    PlainRanges {
-        low: 0,
-        high: 127,
-        arg: BYTE,
-        val: BYTE,
-        sample: ANY,
-    },
-    // point
-    PlainRanges {
-        low: 0,
-        high: 127,
-        arg: BYTE,
-        val: 0,
-        sample: ANY,
-    },
-    // read
-    PlainRanges {
-        low: 0,
-        high: 127,
-        arg: 0,
-        val: 0,
-        sample: ANY,
-    },
-    // sample
-    PlainRanges {
-        low: 0,
-        high: 2,
-        arg: 0,
-        val: 2147483648,
-        sample: 2047,
-    },
-    // tach
-    PlainRanges {
-        low: 1,
-        high: 2,
-        arg: 0,
-        val: BYTE,
-        sample: ANY,
-    },
-    // pin
-    PlainRanges {
-        low: 0,
-        high: 0,
-        arg: 0,
-        val: 1,
-        sample: ANY,
-    },
-    // clock
-    PlainRanges {
-        low: 0,
-        high: 0,
-        arg: 0,
-        val: 0,
-        sample: ANY,
-    },
-    // period
-    PlainRanges {
-        low: 1,
-        high: 2,
-        arg: 0,
-        val: 0,
-        sample: ANY,
-    },
-    // alert
-    PlainRanges {
-        low: 0,
-        high: 127,
-        arg: 0,
-        val: 0,
-        sample: ANY,
-    },
-    // diode
-    PlainRanges {
-        low: 1,
-        high: 2,
-        arg: 0,
-        val: 1,
-        sample: ANY,
-    },
-];
+    }
+}
 
-// The row of a kind; what is no kind carries nothing.
-pub fn row_of(kind: u8) -> PlainRanges
+// The row of a kind.
+#[tactic(auto, unfolding(crate::specs::Judged::row_of))]
+pub fn row_of(kind: Kind) -> PlainRanges
     ensures { result ≡ row_of kind }
 {
-    if (kind as u16) < event::KIND_COUNT {
-        ROWS[kind as usize]
-    } else {
-        PlainRanges {
-            low: 0,
-            high: 0,
-            arg: 0,
-            val: 0,
-            sample: ANY,
-        }
+    match kind {
+        Kind::Power => row(44, 46, 1, 1),
+        Kind::Write => row(0, 127, BYTE, BYTE),
+        Kind::Point => row(0, 127, BYTE, 0),
+        Kind::Read => row(0, 127, 0, 0),
+        Kind::Sample => PlainRanges {
+            sample: 2047,
+            ..row(0, 2, 0, 2147483648)
+        },
+        Kind::Tach => row(1, 2, 0, BYTE),
+        Kind::Pin => row(0, 0, 0, 1),
+        Kind::Clock => row(0, 0, 0, 0),
+        Kind::Period => row(1, 2, 0, 0),
+        Kind::Alert => row(0, 127, 0, 0),
+        Kind::Diode => row(1, 2, 0, 1),
     }
 }

@@ -1,10 +1,9 @@
 -- The keeper: off, or a device that has power. What each event is answered, and what is shown after it.
-use Rattle.std.specs.Prelude.{ℕ, zero, suc, Bool, true, false, cond, List, [], ◌∷◌, ltb, length}
+use Rattle.std.specs.Prelude.{ℕ, zero, suc, Bool, true, false, cond, List, [], ◌∷◌, ltb, length, Result, Ok, Err}
 use Rattle.std.proofs.lemmas.List.Edits.{sets}
 use Rattle.event.specs.declared.Event.{Event}
 use Rattle.event.specs.declared.Kind.TheVariants as kind
-use Rattle.event.specs.declared.Answer.{Answer}
-use Rattle.event.specs.declared.Answer.TheVariants.{Done, Refused}
+use Rattle.event.specs.declared.Refusal.{Refusal}
 use Rattle.event.specs.declared.Refusal.TheVariants.{NoPower, WrongSize}
 use Rattle.event.specs.declared.Shown.{Shown}
 use Rattle.rules.specs.Fields.{monitors}
@@ -21,6 +20,7 @@ use Rattle.chip.specs.declared.Chip.{Chip}
 use Rattle.output.specs.Outputs.{register_at, shown_of}
 use Rattle.device.specs.Devices.{device_after}
 use Rattle.device.specs.declared.Device.{Device}
+use Rattle.part.specs.Each.{each_channel, each_fan}
 use Rattle.keeper.specs.declared.Keeper.{Keeper}
 use Rattle.keeper.specs.declared.Keeper.TheVariants.{Off, On}
 use Rattle.keeper.specs.declared.Outcome.{Outcome}
@@ -47,19 +47,15 @@ blank =
             speeds = 0;
             filter = 0;
             behaviour = 0;
-            local = no_channel_registers;
-            remote1 = no_channel_registers;
-            remote2 = no_channel_registers;
-            fan1 = no_fan_registers;
-            fan2 = no_fan_registers;
+            channels = each_channel (λ _. no_channel_registers);
+            fans = each_fan (λ _. no_fan_registers);
           };
-      channels = record { local = no_channel; remote1 = no_channel; remote2 = no_channel };
-      fan1 = stopped;
-      fan2 = stopped;
+      channels = each_channel (λ _. no_channel);
+      fans = each_fan (λ _. stopped);
     }
 
 abbrev pub blank_device : Device
-blank_device = record { chip = blank; silenced = false; stamps = record { now = 0; fan1 = 0; fan2 = 0 } }
+blank_device = record { chip = blank; silenced = false; stamps = record { now = 0; starts = each_fan (λ _. 0) } }
 
 -- a keeper that never had power has a device too: the one before the first event
 abbrev pub is_on : Keeper → Bool
@@ -92,6 +88,11 @@ unfoldable pub shown_by : Keeper → Shown
 shown_by Off = record { int = 0; therm = 0; fault = 0; duty1 = 0; duty2 = 0 }
 shown_by (On d) = shown_of d.chip d.silenced
 
+-- the device of a keeper: 1 before the first power
+abbrev pub powered_device : Keeper → Result Device Refusal
+powered_device Off = Err NoPower
+powered_device (On d) = Ok d
+
 -- T-07: the stamp, 0 before the first power
 unfoldable pub stamp_by : Keeper → ℕ
 stamp_by Off = 0
@@ -106,14 +107,14 @@ abbrev pub accepted_by : Device → Input → Outcome
 accepted_by d i =
     record {
       keeper = On (device_after i d);
-      answer = Done (data_for d.chip i);
+      answer = Ok (data_for d.chip i);
       shown = shown_of (device_after i d).chip (device_after i d).silenced;
     }
 
-abbrev pub refused_by : Keeper → Answer → Outcome
+abbrev pub refused_by : Keeper → Result ℕ Refusal → Outcome
 refused_by k a = record { keeper = k; answer = a; shown = shown_by k }
 
-abbrev pub decided : Keeper → Device → Input → Answer → Outcome
+abbrev pub decided : Keeper → Device → Input → Result ℕ Refusal → Outcome
 decided k d i a = cond (accepts a) (accepted_by d i) (refused_by k a)
 
 unfoldable pub outcome_of : Keeper → Event → Outcome
@@ -124,9 +125,9 @@ unfoldable pub image_from : (from count : ℕ) → Chip → List ℕ
 image_from a zero c = []
 image_from a (suc n) c = register_at c a ∷ image_from (suc a) n c
 
-unfoldable pub image_answer : Keeper → (buffer : List ℕ) → Answer
-image_answer Off buffer = Refused NoPower
-image_answer (On d) buffer = cond (ltb (length buffer) 64) (Refused WrongSize) (Done 0)
+unfoldable pub image_answer : Keeper → (buffer : List ℕ) → Result ℕ Refusal
+image_answer Off buffer = Err NoPower
+image_answer (On d) buffer = cond (ltb (length buffer) 64) (Err WrongSize) (Ok 0)
 
 -- with 1 or 11 no byte of the buffer changes; bytes after the 64th stay
 unfoldable pub image_buffer : Keeper → List ℕ → List ℕ

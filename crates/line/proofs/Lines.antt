@@ -1,32 +1,41 @@
 -- Laws of the lines of `specs/Line.antt`: where a line ends, and what stands there. Assumes nothing.
 use Prim.Native.Nat.{ℕ, suc, ◌+◌, ◌-◌, ◌≤◌, ◌<◌}
-use mathlib.Core.Path.{◌≡◌, refl, sym, ap, ◌∙◌}
+use mathlib.Core.Path.{◌≡◌, refl, ap}
 use mathlib.Core.List.{List, [], ◌∷◌, ◌++◌}
 use mathlib.Core.Bool.{Bool, true, false, cond}
 use native.Mathlib.Omega.{arith}
-use native.Mathlib.Nat.{add-zero, add_comm}
-use native.Mathlib.Numerals.{add-one}
+use native.Mathlib.Nat.{add_comm}
 use lib.Dec.{eqb}
-use lib.ListN.{length, get_or, take, drop, drop_of_length-le, length-drop}
-use lib.Seq.{drop-cons, take-nil}
+use lib.ListN.{length, take, drop, drop_of_length-le, length-drop}
+use lib.Seq.{take-nil}
 use borrow.Author.Tests.{lt-ltb, le-ltb, eq-eqb, ne_eqb, eqb-true}
+use Rattle.std.specs.Option.{MatchOption, unwrap_or}
+use Rattle.std.specs.List.{AllWithin, HoldsAt}
+use Rattle.std.proofs.lemmas.Iterator.{index_from_first}
+use Rattle.std.proofs.Common.{◌≢◌, min, Option, inl, inr}
+use Rattle.std.proofs.lemmas.List.{take_rest}
+use Rattle.std.proofs.lemmas.Bool.{cases_lt}
 use Rattle.line.specs.Line.{first_line, line_at, end_at, start_of}
 
 -- ---- the search of a line's end
 
--- what it answers at each index, from the invariant that the line from i on ends where the one from `at` does
-module _ (s : List ℕ) (at i : ℕ) (inv : end_at s at ≡ end_at s i) where
-  pub end_found : i < length s → get_or s i 0 ≡ 10 → i ≡ end_at s at
-  unfolding end_at line_at first_line
-  end_found h e = sym (inv ∙ rw (drop-cons s i 0 h, eq-eqb (get_or s i 0) 10 e) (add-zero i))
+-- what lies behind an index, as the code cuts it: nothing, past the end
+pub behind : (s : List ℕ) (at m : ℕ) → m ≡ min at (length s) → take (length s - m) (drop m s) ≡ drop at s
+behind s at m e =
+    elim (cases_lt (length s) at) [
+      | inl h ↦ let past : m ≡ length s = omega arith in
+          rw (past, take_rest, drop_of_length-le s {i = length s} (omega arith), drop_of_length-le s {i = at} (omega arith))
+      | inr h ↦ let within : m ≡ at = omega arith in rw (within, take_rest)
+    ]
 
-  pub end_more : i < length s → (get_or s i 0 ≡ 10 → ⊥) → end_at s at ≡ end_at s (i + 1)
-  unfolding end_at line_at first_line
-  end_more h e = inv ∙ rw (drop-cons s i 0 h, ne_eqb (get_or s i 0) 10 e, add-one) (omega arith)
-
-  pub end_last : length s ≤ i → i ≡ end_at s at
-  unfolding end_at line_at first_line
-  end_last h = sym (inv ∙ rw (drop_of_length-le s {i = i} h) (add-zero i))
+-- the place of the first newline, or the length where there is none
+pub length-first_line : (l : List ℕ) (r : Option ℕ)
+    → MatchOption r (AllWithin (λ b. b ≢ 10) l 0 (length l)) (λ i. (i < length l) × HoldsAt (λ b. b ≡ 10) l i × AllWithin (λ b. b ≢ 10) l 0 i)
+    → length (first_line l) ≡ unwrap_or r (length l)
+unfolding first_line
+length-first_line =
+    index_from_first (λ l. length (first_line l)) (λ b. b ≡ 10) (λ b. b ≢ 10) refl
+    (λ x xs e. rw (eq-eqb x 10 e)) (λ x xs n. rw (ne_eqb x 10 n) (omega arith))
 
 -- ---- a line as a part of the text
 

@@ -5,34 +5,19 @@ ghost use Rattle.std.specs.Prelude.{◌≡◌};
 ghost use Rattle.line.specs.Line.{same_bytes, line_at, end_at, start_of, IsPart};
 
 // Whether a and b hold the same bytes.
+// Stays: with == in the closure of a find, as in `trace::kind_named`, the proof of what is found did not close.
 pub fn same(a: &[u8], b: &[u8]) -> bool
     ensures { result ≡ same_bytes a.now b.now }
 {
-    if a.len() != b.len() {
-        return false;
-    }
-    let mut i = 0;
-    while i < a.len() {
-        if a[i] != b[i] {
-            return false;
-        }
-        i += 1;
-    }
-    true
+    a == b
 }
 
 // Where the line that starts at `at` ends: at its newline, or at the end of the text.
 pub fn line_end(text: &[u8], at: usize) -> usize
     ensures { result ≡ end_at text.now at }
 {
-    let mut i = at;
-    while i < text.len() {
-        if text[i] == b'\n' {
-            return i;
-        }
-        i += 1;
-    }
-    i
+    let rest = &text[at.min(text.len())..];
+    at + rest.iter().position(|b| *b == b'\n').unwrap_or(rest.len())
 }
 
 // The line that starts at `at`, without its newline, as a part of the text; past the end, the empty part there.

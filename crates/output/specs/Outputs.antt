@@ -11,22 +11,23 @@ use Rattle.rules.specs.Fields.{int_enabled, fault_enabled, channel_enabled}
 use Rattle.reading.specs.Reading.{byte_of, remainder_of, extended_of}
 use Rattle.stored.specs.Stored.{stored_in}
 use Rattle.channel.specs.Channels.{therm_of}
-use Rattle.channel.specs.declared.Channels.{Channels}
+use Rattle.part.specs.declared.PerChannel.{PerChannel}
+use Rattle.channel.specs.declared.Channel.{Channel}
 use Rattle.chip.specs.declared.Chip.{Chip}
 
 -- temperatures 4: the status registers
 unfoldable pub status_of : FanId → Chip → ℕ
 status_of One k =
-    packed k.fan1.alarm k.fan1.fault
+    packed k.fans.one.alarm k.fans.one.fault
     k.channels.remote1.high k.channels.remote1.low k.channels.remote1.therm k.channels.remote1.error
     k.channels.local.high k.channels.local.low
 status_of Two k =
-    packed k.fan2.alarm k.fan2.fault
+    packed k.fans.two.alarm k.fans.two.fault
     k.channels.remote2.high k.channels.remote2.low k.channels.remote2.therm k.channels.remote2.error
     k.channels.local.therm k.port.pulled
 
 -- temperatures 1: register 0x06
-abbrev pub extended_in : Channels → ℕ
+abbrev pub extended_in : PerChannel Channel → ℕ
 extended_in cs = extended_of (remainder_of cs.local.reading) (remainder_of cs.remote1.reading) (remainder_of cs.remote2.reading)
 
 -- what a read of the register at an address returns: status, remainders and readings, else the stored byte; 0 where there is none
@@ -54,7 +55,7 @@ int_due_of k =
 
 -- tach counts: FAN_FAULT
 unfoldable pub fault_of : Chip → Bool
-fault_of k = fault_enabled k.registers.config1 && (eqb k.fan1.run 5 || eqb k.fan2.run 5)
+fault_of k = fault_enabled k.registers.config1 && (eqb k.fans.one.run 5 || eqb k.fans.two.run 5)
 
 -- INT, THERM and FAN_FAULT as 1 while asserted, else 0; INT is not, while it is let go (T-02)
 unfoldable pub shown_of : Chip → (silenced : Bool) → Shown
@@ -63,6 +64,6 @@ shown_of k silenced =
       int = flag_of (int_due_of k && not silenced);
       therm = flag_of (therm_of k.channels);
       fault = flag_of (fault_of k);
-      duty1 = k.fan1.drive.duty;
-      duty2 = k.fan2.drive.duty;
+      duty1 = k.fans.one.drive.duty;
+      duty2 = k.fans.two.drive.duty;
     }

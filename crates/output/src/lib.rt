@@ -11,13 +11,15 @@ use part::{ChannelId, FanId};
 // ---- registers
 
 // The status registers: 0x02 by fan 1, 0x03 by fan 2.
+// Stays: six bits go by a fan and its remote channel, two do not; so each register is read off as the data sheet has it.
+#[tactic(auto, unfolding(crate::specs::Outputs::status_of))]
 pub fn status(f: FanId, k: Chip) -> u8
     ensures { result ≡ status_of f k }
 {
     match f {
         FanId::One => integer::pack(
-            k.fan1.alarm,
-            k.fan1.fault,
+            k.fans.one.alarm,
+            k.fans.one.fault,
             k.channels.remote1.high,
             k.channels.remote1.low,
             k.channels.remote1.therm,
@@ -26,8 +28,8 @@ pub fn status(f: FanId, k: Chip) -> u8
             k.channels.local.low,
         ),
         FanId::Two => integer::pack(
-            k.fan2.alarm,
-            k.fan2.fault,
+            k.fans.two.alarm,
+            k.fans.two.fault,
             k.channels.remote2.high,
             k.channels.remote2.low,
             k.channels.remote2.therm,
@@ -39,6 +41,7 @@ pub fn status(f: FanId, k: Chip) -> u8
 }
 
 // What a read of the register at an address returns; 0 where there is no register.
+#[tactic(auto, unfolding(crate::specs::Outputs::register_at))]
 pub fn value_at(k: Chip, a: u8) -> u8
     ensures { result ≡ register_at k a }
 {
@@ -66,14 +69,12 @@ pub fn value_at(k: Chip, a: u8) -> u8
 fn is_pending(on: bool, status: u8) -> bool
     ensures { result ≡ pending_in on status }
 {
-    if on {
-        0 < status & 0xFF
-    } else {
-        0 < status & 0xDF
-    }
+    let counted = if on { 0xFF } else { 0xDF };
+    0 < status & counted
 }
 
 // Whether INT is to be asserted, unless an alert has let it go.
+#[tactic(auto, unfolding(crate::specs::Outputs::int_due_of))]
 pub fn int_due(k: Chip) -> bool
     ensures { result ≡ int_due_of k }
 {
@@ -83,21 +84,23 @@ pub fn int_due(k: Chip) -> bool
         & (is_pending(on1, status(FanId::One, k)) | is_pending(on2, status(FanId::Two, k)))
 }
 
+#[tactic(auto, unfolding(crate::specs::Outputs::fault_of))]
 fn fault(k: Chip) -> bool
     ensures { result ≡ fault_of k }
 {
-    integer::bit(k.registers.config1, 4) & ((k.fan1.run == 5) | (k.fan2.run == 5))
+    integer::bit(k.registers.config1, 4) & ((k.fans.one.run == 5) | (k.fans.two.run == 5))
 }
 
 // The outputs; INT is not asserted while it is let go.
+#[tactic(auto, unfolding(crate::specs::Outputs::shown_of))]
 pub fn shown(k: Chip, silenced: bool) -> Shown
     ensures { result ≡ shown_of k silenced }
 {
     Shown {
-        int: integer::flag(int_due(k) & !silenced),
-        therm: integer::flag(channel::therm(k.channels)),
-        fault: integer::flag(fault(k)),
-        duty1: k.fan1.drive.duty,
-        duty2: k.fan2.drive.duty,
+        int: u8::from(int_due(k) & !silenced),
+        therm: u8::from(channel::therm(k.channels)),
+        fault: u8::from(fault(k)),
+        duty1: k.fans.one.drive.duty,
+        duty2: k.fans.two.drive.duty,
     }
 }

@@ -1,61 +1,36 @@
 #![tactic(auto)]
 // Prints the panel after the last event of the trace on standard input: tenths of a degree, revolutions a minute.
 // The buffer holds the longest lines, so that the program never falls silent.
-// A failed read or write is told on standard error; after a failed read there are no lines.
-ghost use Rattle.std.specs.Prelude.{◌≡◌, ◌≤◌, length};
+ghost use Rattle.std.specs.Prelude.{◌≡◌, ◌≤◌, length, take, IfSome, OnOk};
 ghost use Rattle.std.proofs.lemmas.List.Edits.{sets};
-ghost use Rattle.io.specs.Counts.{IsPrefixLen};
+ghost use Rattle.std.specs.Io.KnownBytes.{Appends};
 ghost use Rattle.display.specs.Displayed.{displayed};
 
+use program::Failure;
+use std::alloc::Global;
 use std::io::{self, Read, Write};
 
-// One byte more than a text may have.
-fn input_buffer() -> [u8; 65537]
-    ensures { 65537 ≡ length result }
-{
-    [0; 65537]
-}
-
 // Five lines of at most 20 bytes.
-fn line_buffer() -> [u8; 100]
-    ensures { 100 ≡ length result }
-{
-    [0; 100]
-}
+const LONGEST: usize = 100;
 
-// What is to be printed, in the buffer, and its length: it always fits.
+// What is to be printed of a text, in the buffer, and its length: it always fits.
 fn printed(text: &[u8], lines: &mut [u8]) -> usize
-    requires { 100 ≤ length lines.old }
+    requires { LONGEST ≤ length lines.old }
     ensures value { result ≡ length (displayed text.now) }
-    ensures prefix_len { IsPrefixLen result lines.new }
     ensures lines_after { lines.new ≡ sets lines.old 0 (displayed text.now) }
 {
-    buffer::end_of(display::display(text, lines), 0)
+    display::display(text, lines).unwrap_or(0)
 }
 
-// The input is read until a read brings nothing more: it ended, or the buffer is full.
+// What is told of all that is read, up to one byte more than a text may have, is written, and nothing else.
+fn told<R: Read, W: Write>(alloc: Global, reader: &mut R, writer: &mut W) -> Result<(), Failure>
+    ensures { OnOk result (IfSome (R.remaining reader.old) (λ input.
+        Appends (W.contents writer.old) (W.contents writer.new) (displayed (take 65537 input)))) }
+{
+    program::answered(alloc, reader, writer, LONGEST, printed)
+}
+
 fn main(rt: HostRuntime) -> io::Result<()> {
-    let mut input = input_buffer();
-    let mut n: usize = 0;
-    let mut more: usize = 1;
-    let mut source = rt.stdin();
-    while 0 < more {
-        match source.read(&mut input[n..]) {
-            Ok(got) => more = got,
-            Err(error) => {
-                eprintln!(rt; "panel: standard input could not be read")?;
-                return Err(error);
-            }
-        }
-        n += more;
-    }
-    let mut output = line_buffer();
-    let m = printed(&input[..n], &mut output);
-    match rt.stdout().write_all(&output[..m]) {
-        Ok(()) => Ok(()),
-        Err(error) => {
-            eprintln!(rt; "panel: the panel could not be written")?;
-            Err(error)
-        }
-    }
+    let end = told(rt.alloc(), &mut rt.stdin(), &mut rt.stdout());
+    program::ended(&rt, "panel", "the panel", end)
 }

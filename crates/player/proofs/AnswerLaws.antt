@@ -12,10 +12,9 @@ use borrow.Author.Tests.{lt-ltb, le-ltb, le-leb, lt-leb}
 use Rattle.event.specs.declared.Event.{Event}
 use Rattle.event.specs.declared.Refusal.TheVariants.{WrongSize}
 use Rattle.buffer.specs.Put.{put_of, held_of}
-use Rattle.buffer.specs.declared.Put.TheVariants.{End, Refused}
+use Rattle.std.specs.Prelude.{Ok, Err, Result}
 use Rattle.trace.specs.Trace.{event_at}
-use Rattle.trace.specs.declared.Reading.{Reading}
-use Rattle.trace.specs.declared.Reading.TheVariants as reading
+use Rattle.trace.specs.declared.Misread.{Misread}
 use Rattle.report.specs.Report.{entry_text}
 use Rattle.rules.specs.Replies.{History, taken}
 use Rattle.rules.specs.Shows.{answer, shown}
@@ -37,11 +36,12 @@ unfolding played_from report_from run
 played_is zero text at line h = refl
 played_is (suc k) text at line h = go (event_at text at) (λ next e. played_is k text next (line + 4) (e ∷ h))
   where
-    go : (r : Reading) → ((next : ℕ) (e : Event) → played_from k text next (line + 4) (run (e ∷ h)) ≡ report_from k text next (line + 4) (e ∷ h))
+    go : (r : Result (Event × ℕ) Misread)
+        → ((next : ℕ) (e : Event) → played_from k text next (line + 4) (run (e ∷ h)) ≡ report_from k text next (line + 4) (e ∷ h))
         → cond (leb (length text) at) [] (lines_by r line (run h) (λ next x. played_from k text next (line + 4) x))
         ≡ cond (leb (length text) at) [] (lines r line h (λ next x. report_from k text next (line + 4) x))
-    go (reading.Event e next) ih = rw (entry_is e h, ih next e)
-    go (reading.Wrong i start) ih = refl
+    go (Ok (e, next)) ih = rw (entry_is e h, ih next e)
+    go (Err w) ih = refl
 
 pub report_is : (text : List ℕ) → played_of text ≡ report_of text
 unfolding played_of report_of run
@@ -50,7 +50,7 @@ report_is text = played_is (length text) text 0 1 []
 -- ---- the answer
 
 module _ (text d : List ℕ) where
-  pub too_long : 65536 < length text → Refused WrongSize ≡ replay_answer text d
+  pub too_long : 65536 < length text → Err WrongSize ≡ replay_answer text d
   unfolding replay_answer
   too_long h = rw (lt-ltb 65536 (length text) h)
 
@@ -58,12 +58,12 @@ module _ (text d : List ℕ) where
   unfolding replay_buffer
   too_long_held h = rw (lt-ltb 65536 (length text) h)
 
-  module _ (h : length text ≤ 65536) where
-    size : 0 + length (report_of text) ≡ length (played_of text)
-    size = zero-add (length (report_of text)) ∙ ap length (sym (report_is text))
+  module _ (h : length text ≤ 65536) {report : List ℕ} (is : report ≡ played_of text) where
+    size : 0 + length (report_of text) ≡ length report
+    size = zero-add (length (report_of text)) ∙ ap length (sym (is ∙ report_is text))
 
-    module _ {n : ℕ} (e : n ≡ length (played_of text)) (l : length d < n) where
-      pub too_short_lem : Refused WrongSize ≡ replay_answer text d
+    module _ {n : ℕ} (e : n ≡ length report) (l : length d < n) where
+      pub too_short_lem : Err WrongSize ≡ replay_answer text d
       unfolding replay_answer put_of
       too_short_lem = rw (le-ltb 65536 (length text) h, size, ← e, lt-leb n (length d) l)
 
@@ -72,17 +72,17 @@ module _ (text d : List ℕ) where
       too_short_held = rw (le-ltb 65536 (length text) h, size, ← e, lt-leb n (length d) l)
 
     -- the report has room: it was measured, or the buffer has room for the longest
-    pub measured_room : {n : ℕ} → n ≡ length (played_of text) → n ≤ length d → length (played_of text) ≤ length d
+    pub measured_room : {n : ℕ} → n ≡ length report → n ≤ length d → length report ≤ length d
     measured_room e l = rw (← e) l
 
-    pub sure_room : 3 * length text + 26 ≤ length d → length (played_of text) ≤ length d
-    sure_room l = omega (arith, bounded text h, ap length (report_is text))
+    pub sure_room : 3 * length text + 26 ≤ length d → length report ≤ length d
+    sure_room l = omega (arith, bounded text h, ap length (is ∙ report_is text))
 
-    module _ (room : length (played_of text) ≤ length d) where
-      pub answered : {o : ℕ} → o ≡ length (played_of text) → End o ≡ replay_answer text d
+    module _ (room : length report ≤ length d) where
+      pub answered : {o : ℕ} → o ≡ length report → Ok o ≡ replay_answer text d
       unfolding replay_answer put_of
-      answered e = rw (le-ltb 65536 (length text) h, size, le-leb (length (played_of text)) (length d) room, e)
+      answered e = rw (le-ltb 65536 (length text) h, size, le-leb (length report) (length d) room, e)
 
-      pub answered_held : {d' : List ℕ} → d' ≡ sets d 0 (played_of text) → d' ≡ replay_buffer text d
+      pub answered_held : {d' : List ℕ} → d' ≡ sets d 0 report → d' ≡ replay_buffer text d
       unfolding replay_buffer held_of
-      answered_held e = rw (le-ltb 65536 (length text) h, size, le-leb (length (played_of text)) (length d) room) (e ∙ ap (sets d 0) (report_is text))
+      answered_held e = rw (le-ltb 65536 (length text) h, size, le-leb (length report) (length d) room) (e ∙ ap (sets d 0) (is ∙ report_is text))

@@ -1,26 +1,19 @@
--- A buffer in which the report grows, event by event. Assumes nothing.
+-- A buffer in which the report grows, entry by entry. Assumes nothing.
 use Prim.Native.Nat.{ℕ, ◌+◌, ◌-◌, ◌≤◌, ◌<◌}
 use mathlib.Core.Path.{◌≡◌, refl, sym, ap, ◌∙◌}
-use mathlib.Core.List.{List, [], ◌++◌, append_assoc, append-nil}
+use mathlib.Core.List.{List, [], ◌∷◌, ◌++◌, append_assoc, append-nil}
 use native.Mathlib.Omega.{arith}
-use native.Mathlib.Nat.{sub-zero, zero-add}
 use lib.ListN.{length, take, drop, length-append}
 use lib.Seq.{sets, sets-eq, take_at, length-take-le, length-sets}
-use Rattle.event.specs.declared.Event.{Event}
-use Rattle.buffer.specs.Put.{put_of, held_of, end_of}
-use Rattle.buffer.specs.declared.Put.{Put}
+use native.Mathlib.Nat.{zero-add}
+use Rattle.player.specs.declared.entries.Entry.{Entry}
+use Rattle.player.specs.Entries.{entry_bytes, report_by}
+use Rattle.buffer.specs.Put.{put_of, held_of}
+use Rattle.std.specs.Result.{result_unwrap_or}
+use Rattle.event.specs.declared.Refusal.{Refusal}
+use Rattle.std.specs.Prelude.{Result, Ok, Err}
 use Rattle.buffer.proofs.TextLaws.{sets_append}
 use Rattle.buffer.proofs.WholeLaws.{end_there, held_there}
-use Rattle.trace.specs.Trace.{event_at}
-use Rattle.trace.specs.declared.Reading.{Reading}
-use Rattle.trace.specs.declared.Reading.TheVariants as reading
-use Rattle.report.specs.Report.{malformed_text}
-use Rattle.keeper.specs.Keeping.{outcome_of}
-use Rattle.keeper.specs.declared.Keeper.{Keeper}
-use Rattle.keeper.specs.declared.Outcome.{Outcome}
-use Rattle.keeper.specs.declared.Keeper.TheVariants.{Off}
-use Rattle.player.specs.Played.{played_from, played_of}
-use Rattle.player.proofs.PlayedLaws.{entry_by, run_end, run_wrong, run_event}
 
 -- ---- a text that grows in a buffer: `full` is what is to be written, of which the first `out` bytes of d are there, and `rest` is left.
 -- d is d0 with that much written.
@@ -56,75 +49,45 @@ module _ (full d0 d rest : List ℕ) (out : ℕ) (inv : full ≡ take out d ++ r
         sym (ap (sets d0 0) (put_take t d out grow_room) ∙ sets_append (take out d) t d0 0 ∙ ap (λ (l : List ℕ). sets l (0 + length (take out d)) t) (sym held)
         ∙ ap (λ (k : ℕ). sets d k t) n)
 
--- the same for the report
-module _ (s d0 d : List ℕ) (at out line : ℕ) (c : Keeper)
-    (inv : played_of s ≡ take out d ++ played_from (length s - at) s at line c) (held : d ≡ sets d0 0 (take out d))
-    (same : length d ≡ length d0) (room : length (played_of s) ≤ length d0) (within : out ≤ length d) where
-  write_end : length s ≤ at → (out ≡ length (played_of s)) × (d ≡ sets d0 0 (played_of s))
-  write_end h = grow_end (played_of s) d0 d (played_from (length s - at) s at line c) out inv held same room within (run_end (length s - at) s at line c h)
+-- ---- the same of entries: d is d0 with the first `out` bytes of the report, and the entries `left` are still to be written
 
-  pub write_end_at : length s ≤ at → out ≡ length (played_of s)
-  write_end_at h = (write_end h).0
+pub record Grown (full d0 : List ℕ) (out : ℕ) (d : List ℕ) (left : List Entry) : Type 0 where
+  pub size : length d ≡ length d0
+  pub within : out ≤ length d
+  pub held : d ≡ sets d0 0 (take out d)
+  pub whole : full ≡ take out d ++ report_by left
+  pub room : length full ≤ length d0
 
-  pub write_end_held : length s ≤ at → d ≡ sets d0 0 (played_of s)
-  write_end_held h = (write_end h).1
+pub grown_start : (d : List ℕ) (left : List Entry) → length (report_by left) ≤ length d → Grown (report_by left) d 0 d left
+grown_start d left h = record { size = refl; within = omega arith; held = refl; whole = refl; room = h }
 
-  module _ (h : at < length s) {r : Reading} (q : r ≡ event_at s at) where
-    module _ {i st : ℕ} (x : r ≡ reading.Wrong i st) where
-      is_wrong : played_from (length s - at) s at line c ≡ malformed_text (line + i) ++ []
-      is_wrong = run_wrong s at line c h q x ∙ sym (append-nil (malformed_text (line + i)))
+module _ {full d0 : List ℕ} {out : ℕ} {d : List ℕ} {left : List Entry} (g : Grown full d0 out d left) where
+  all_there : left ≡ [] → (out ≡ length full) × (d ≡ sets d0 0 full)
+  all_there q = grow_end full d0 d (report_by left) out g.whole g.held g.size g.room g.within (ap report_by q)
 
-      wrong_room : out + length (malformed_text (line + i)) ≤ length d
-      wrong_room = grow_room (played_of s) d0 d (played_from (length s - at) s at line c) out inv held same room within (malformed_text (line + i)) [] is_wrong
+  pub grown_end : left ≡ [] → out ≡ length full
+  grown_end q = (all_there q).0
 
-      wrong_end : (out + length (malformed_text (line + i)) ≡ length (played_of s)) × (sets d out (malformed_text (line + i)) ≡ sets d0 0 (played_of s))
-      wrong_end =
-          let w = malformed_text (line + i) in
-          let f = grow_inv (played_of s) d0 d (played_from (length s - at) s at line c) out inv held same room within w [] is_wrong in
-          let g = grow_held (played_of s) d0 d (played_from (length s - at) s at line c) out inv held same room within w [] is_wrong in
-          grow_end (played_of s) d0 (sets d out w) [] (out + length w) f g (length-sets d out w ∙ same) room (rw (length-sets d out w) wrong_room) refl
+  pub grown_held : left ≡ [] → d ≡ sets d0 0 full
+  grown_held q = (all_there q).1
 
-      pub wrong_end_at : {p : Put} {o : ℕ} → p ≡ put_of d out (malformed_text (line + i)) → o ≡ end_of p out → o ≡ length (played_of s)
-      wrong_end_at hp ho = end_there d (malformed_text (line + i)) out wrong_room out hp ho ∙ wrong_end.0
+  module _ {entry : Entry} {more : List Entry} (q : left ≡ entry ∷ more) where
+    room : out + length (entry_bytes entry) ≤ length d
+    room = grow_room full d0 d (report_by left) out g.whole g.held g.size g.room g.within (entry_bytes entry) (report_by more) (ap report_by q)
 
-      pub wrong_end_held : {d' : List ℕ} → d' ≡ held_of d out (malformed_text (line + i)) → d' ≡ sets d0 0 (played_of s)
-      wrong_end_held hd = held_there d (malformed_text (line + i)) out wrong_room hd ∙ wrong_end.1
-
-    module _ {e : Event} {next : ℕ} (x : r ≡ reading.Event e next) {o : Outcome} (ho : o ≡ outcome_of c e) where
-      is_event_lem : played_from (length s - at) s at line c ≡ entry_by o ++ played_from (length s - next) s next (line + 4) o.keeper
-      is_event_lem = run_event s at line c h q x ho
-
-      event_room : out + length (entry_by o) ≤ length d
-      event_room =
-          grow_room (played_of s) d0 d (played_from (length s - at) s at line c) out inv held same room within
-          (entry_by o) (played_from (length s - next) s next (line + 4) o.keeper) is_event_lem
-
-      module _ {d' : List ℕ} (hd : d' ≡ held_of d out (entry_by o)) where
-        there : d' ≡ sets d out (entry_by o)
-        there = held_there d (entry_by o) out event_room hd
-
-        pub event_same : length d' ≡ length d0
-        event_same = ap length there ∙ length-sets d out (entry_by o) ∙ same
-
-        module _ {p : Put} {out' : ℕ} (hp : p ≡ put_of d out (entry_by o)) (hn : out' ≡ end_of p out) where
-          end : out' ≡ out + length (entry_by o)
-          end = end_there d (entry_by o) out event_room out hp hn
-
-          pub event_inv : played_of s ≡ take out' d' ++ played_from (length s - next) s next (line + 4) o.keeper
-          event_inv =
+    pub grown : {p : Result ℕ Refusal} {next : ℕ} {d' : List ℕ} → p ≡ put_of d out (entry_bytes entry) → next ≡ result_unwrap_or p out
+        → d' ≡ held_of d out (entry_bytes entry) → Grown full d0 next d' more
+    grown hp hn hd =
+        let there = held_there d (entry_bytes entry) out room hd in
+        let end = end_there d (entry_bytes entry) out room out hp hn in
+        record {
+          size = ap length there ∙ length-sets d out (entry_bytes entry) ∙ g.size;
+          within = rw (end, there, length-sets) room;
+          held =
               rw (end, there)
-              (grow_inv (played_of s) d0 d (played_from (length s - at) s at line c) out inv held same room within
-              (entry_by o) (played_from (length s - next) s next (line + 4) o.keeper) is_event_lem)
-
-          pub event_held : d' ≡ sets d0 0 (take out' d')
-          event_held =
+              (grow_held full d0 d (report_by left) out g.whole g.held g.size g.room g.within (entry_bytes entry) (report_by more) (ap report_by q));
+          whole =
               rw (end, there)
-              (grow_held (played_of s) d0 d (played_from (length s - at) s at line c) out inv held same room within
-              (entry_by o) (played_from (length s - next) s next (line + 4) o.keeper) is_event_lem)
-
-          pub event_within : out' ≤ length d'
-          event_within = rw (end, there, length-sets) event_room
-
-pub write_start : (s d : List ℕ) {c : Keeper} → c ≡ Off → played_of s ≡ take 0 d ++ played_from (length s - 0) s 0 1 c
-unfolding played_of
-write_start s d e = rw (e, sub-zero)
+              (grow_inv full d0 d (report_by left) out g.whole g.held g.size g.room g.within (entry_bytes entry) (report_by more) (ap report_by q));
+          room = g.room;
+        }

@@ -1,108 +1,96 @@
--- The report that stepping a keeper gives, event by event, and its length. Assumes nothing.
-use Prim.Native.Nat.{ℕ, zero, suc, ◌+◌, ◌-◌, ◌*◌, ◌≤◌, ◌<◌}
-use mathlib.Core.Path.{◌≡◌, refl, sym, ap, ◌∙◌}
-use mathlib.Core.List.{List, [], ◌++◌}
-use mathlib.Core.Bool.{Bool, true, false, cond}
-use native.Mathlib.Omega.{arith}
-use native.Mathlib.Nat.{sub-zero, zero-add}
-use lib.Dec.{leb}
-use lib.ListN.{length, length-append}
-use borrow.Author.Tests.{le-leb, lt-leb}
+-- The report that stepping a keeper gives, entry by entry, and its length. Assumes nothing.
+use Rattle.std.proofs.Common.{◌≡◌, ◌∙◌, ℕ, zero, suc, ◌+◌, ◌-◌, ◌*◌, ◌≤◌, List, [], ◌∷◌, ◌++◌, Bool, true, false, cond, leb, length}
+use Rattle.std.proofs.Common.{Ok, Err, Result, refl, sym, ap, arith}
+use mathlib.Core.List.{append-nil}
+use native.Mathlib.Nat.{sub-zero}
+use lib.ListN.{length-append}
 use Rattle.event.specs.declared.Event.{Event}
 use Rattle.trace.specs.Trace.{event_at}
-use Rattle.trace.specs.declared.Reading.{Reading}
-use Rattle.trace.specs.declared.Reading.TheVariants as reading
-use Rattle.trace.proofs.Onward.{onward}
+use Rattle.trace.specs.declared.Misread.{Misread}
+use Rattle.trace_reader.specs.Readings.{reading_then, readings_within, readings_from}
 use Rattle.report.specs.Report.{entry_text, malformed_text}
 use Rattle.keeper.specs.Keeping.{outcome_of}
 use Rattle.keeper.specs.declared.Keeper.{Keeper}
 use Rattle.keeper.specs.declared.Outcome.{Outcome}
 use Rattle.keeper.specs.declared.Keeper.TheVariants.{Off}
+use Rattle.player.specs.declared.entries.Entry.{Entry}
+use Rattle.player.specs.Entries.{entry_bytes, report_by, entries_by}
 use Rattle.player.specs.Played.{lines_by, played_from, played_of}
 
 -- the lines of an outcome
 abbrev pub entry_by : Outcome → List ℕ
 entry_by o = entry_text o.answer o.shown
 
--- ---- the fuel
+-- ---- the entries of a text give its report
 
-pub run_end : (k : ℕ) (s : List ℕ) (at line : ℕ) (c : Keeper) → length s ≤ at → played_from k s at line c ≡ []
-unfolding played_from
-run_end zero s at line c h = refl
-run_end (suc k) s at line c h = rw (le-leb (length s) at h)
-
-run_fuel : (k k' : ℕ) (s : List ℕ) (at line : ℕ) (c : Keeper) → length s - at ≤ k → length s - at ≤ k' → played_from k s at line c ≡ played_from k' s at line c
-unfolding played_from
-run_fuel zero k' s at line c h h' = sym (run_end k' s at line c (omega arith))
-run_fuel (suc k) zero s at line c h h' = run_end (suc k) s at line c (omega arith)
-run_fuel (suc k) (suc k') s at line c h h' = go (leb (length s) at) refl (event_at s at) refl
-    (λ next c' p. run_fuel k k' s next (line + 4) c' (omega arith) (omega arith))
+played_within : (k : ℕ) (s : List ℕ) (at line : ℕ) (c : Keeper) → played_from k s at line c ≡ report_by (entries_by (readings_within k s at) line c)
+unfolding played_from readings_within
+played_within zero s at line c = refl
+played_within (suc k) s at line c = go (leb (length s) at) (event_at s at) (λ next c'. played_within k s next (line + 4) c')
   where
-    go : (t : Bool) → leb (length s) at ≡ t → (r : Reading) → r ≡ event_at s at
-        → ((next : ℕ) (c' : Keeper) → at < next → played_from k s next (line + 4) c' ≡ played_from k' s next (line + 4) c')
-        → cond t [] (lines_by r line c (λ next c'. played_from k s next (line + 4) c')) ≡ cond t []
-        (lines_by r line c (λ next c'. played_from k' s next (line + 4) c'))
-    go true e r q ih = refl
-    go false e (reading.Event v next) q ih = ap (λ (l : List ℕ). entry_by (outcome_of c v) ++ l)
-        (ih next (outcome_of c v).keeper (omega (arith, onward s at q refl)))
-    go false e (reading.Wrong i st) q ih = refl
+    go : (t : Bool) (r : Result (Event × ℕ) Misread)
+        → ((next : ℕ) (c' : Keeper) → played_from k s next (line + 4) c' ≡ report_by (entries_by (readings_within k s next) (line + 4) c'))
+        → cond t [] (lines_by r line c (λ next c'. played_from k s next (line + 4) c'))
+        ≡ report_by (entries_by (cond t [] (reading_then r (readings_within k s))) line c)
+    go true r ih = refl
+    go false (Ok (e, next)) ih = ap (λ (l : List ℕ). entry_by (outcome_of c e) ++ l) (ih next (outcome_of c e).keeper)
+    go false (Err w) ih = sym (append-nil (malformed_text (line + w.line)))
 
-module _ (s : List ℕ) (at line : ℕ) (c : Keeper) (h : at < length s) {r : Reading} (q : r ≡ event_at s at) where
-  one : (k : ℕ) → played_from (suc k) s at line c ≡ lines_by r line c (λ next c'. played_from k s next (line + 4) c')
-  unfolding played_from
-  one k = rw (lt-leb (length s) at h, ← q)
+played_read : (s : List ℕ) → report_by (entries_by (readings_from s 0) 1 Off) ≡ played_of s
+unfolding played_of readings_from
+played_read s = rw sub-zero (sym (played_within (length s) s 0 1 Off))
 
-  pub run_wrong : {i st : ℕ} → r ≡ reading.Wrong i st → played_from (length s - at) s at line c ≡ malformed_text (line + i)
-  run_wrong e =
-      let k : length s - at ≡ suc (length s - at - 1) = omega arith in
-      ap (λ (n : ℕ). played_from n s at line c) k ∙ one (length s - at - 1) ∙ ap
-      (λ (x : Reading). lines_by x line c (λ next c'. played_from (length s - at - 1) s next (line + 4) c')) e
+pub played_new : (s : List ℕ) {left : List (Result Event Misread)} {c : Keeper} → left ≡ readings_from s 0 → c ≡ Off
+    → report_by (entries_by left 1 c) ≡ played_of s
+played_new s q e = rw (q, e) (played_read s)
 
-  pub run_event : {e : Event} {next : ℕ} {o : Outcome} → r ≡ reading.Event e next → o ≡ outcome_of c e
-      → played_from (length s - at) s at line c ≡ entry_by o ++ played_from (length s - next) s next (line + 4) o.keeper
-  run_event {e} {next} x ho =
-      let k : length s - at ≡ suc (length s - at - 1) = omega arith in
-      let o = onward s at q x in
-      rw ho (ap (λ (n : ℕ). played_from n s at line c) k ∙ one (length s - at - 1) ∙ ap
-      (λ (x : Reading). lines_by x line c (λ next c'. played_from (length s - at - 1) s next (line + 4) c')) x
-      ∙ ap (λ (l : List ℕ). entry_by (outcome_of c e) ++ l) (run_fuel (length s - at - 1) (length s - next) s next (line + 4) (outcome_of c e).keeper
-      (omega arith) (omega arith)))
+-- ---- how many there are: no more than bytes
 
--- ---- the length, event by event: n is how long the report is before the text at `at`
+short_within : (k : ℕ) (s : List ℕ) (at : ℕ) → length (readings_within k s at) ≤ k
+unfolding readings_within
+short_within zero s at = omega arith
+short_within (suc k) s at = go (leb (length s) at) (event_at s at) (λ next. short_within k s next)
+  where
+    go : (t : Bool) (r : Result (Event × ℕ) Misread) → ((next : ℕ) → length (readings_within k s next) ≤ k)
+        → length (cond t [] (reading_then r (readings_within k s))) ≤ suc k
+    go true r ih = omega arith
+    go false (Ok (e, next)) ih = let h = ih next in omega (arith, h)
+    go false (Err w) ih = omega arith
 
-module _ (s : List ℕ) (at line n : ℕ) (c : Keeper) (inv : length (played_of s) ≡ n + length (played_from (length s - at) s at line c)) where
-  pub len_end : length s ≤ at → n ≡ length (played_of s)
-  len_end h =
-      let z : length (played_from (length s - at) s at line c) ≡ 0 = ap length (run_end (length s - at) s at line c h) in
-      omega arith
+readings_short : (s : List ℕ) → length (readings_from s 0) ≤ length s
+unfolding readings_from
+readings_short s = let h = short_within (length s - 0) s 0 in omega (arith, h)
 
-  pub len_wrong : {r : Reading} {i st w : ℕ} → at < length s → r ≡ event_at s at → r ≡ reading.Wrong i st → w ≡ length (malformed_text (line + i))
-      → n + w ≡ length (played_of s)
-  len_wrong {r} {i} {st} h q e hw =
-      let z : length (played_from (length s - at) s at line c) ≡ length (malformed_text (line + i)) = ap length (run_wrong s at line c h q e) in
-      omega arith
+pub short_new : (s : List ℕ) {left : List (Result Event Misread)} → left ≡ readings_from s 0 → length s ≤ 65536 → 1 + 4 * length left ≤ 262145
+short_new s q h = rw q (omega (arith, h, readings_short s))
 
-  pub len_event : {r : Reading} {e : Event} {next w : ℕ} {o : Outcome} → at < length s → r ≡ event_at s at → r ≡ reading.Event e next
-      → o ≡ outcome_of c e → w ≡ length (entry_by o) → length (played_of s) ≡ n + w + length (played_from (length s - next) s next (line + 4) o.keeper)
-  len_event {r} {e} {next} {w} {o} h q x ho hw =
-      let z : length (played_from (length s - at) s at line c) ≡ length (entry_by o) + length (played_from (length s - next) s next (line + 4) o.keeper) =
-      ap length (run_event s at line c h q x ho) ∙ length-append (entry_by o) (played_from (length s - next) s next (line + 4) o.keeper) in
-      omega arith
+entries_length : (left : List (Result Event Misread)) (line : ℕ) (c : Keeper) → length (entries_by left line c) ≡ length left
+entries_length [] line c = refl
+entries_length (Ok e ∷ left) line c = let h = entries_length left (line + 4) (outcome_of c e).keeper in omega (arith, h)
+entries_length (Err w ∷ left) line c = let h = entries_length left line c in omega (arith, h)
 
-pub len_start : (s : List ℕ) {c : Keeper} → c ≡ Off → length (played_of s) ≡ 0 + length (played_from (length s - 0) s 0 1 c)
-unfolding played_of
-len_start s e = rw (e, sub-zero, zero-add)
+-- ---- the length, entry by entry: n is how long the report is before the entries that are left
 
--- what the next place brings: it is within the text, fewer bytes are left, and the line's number and the length stay in bounds
-module _ (s : List ℕ) (at : ℕ) {r : Reading} {e : Event} {next : ℕ} (q : r ≡ event_at s at) (x : r ≡ reading.Event e next) where
-  pub next_within : next ≤ length s
-  next_within = (onward s at q x).1
+pub record Measured (full : List ℕ) (n : ℕ) (left : List Entry) : Type 0 where
+  pub counted : length full ≡ n + length (report_by left)
+  pub bound : n + 68 * length left ≤ 4456448
 
-  pub next_less : length s - next < length s - at
-  next_less = omega (arith, onward s at q x)
+pub measured_start : (left : List (Result Event Misread)) (line : ℕ) (c : Keeper) → line + 4 * length left ≤ 262145
+    → {entries : List Entry} → entries ≡ entries_by left line c → Measured (report_by (entries_by left line c)) 0 entries
+measured_start left line c h q =
+    let n = ap length q ∙ entries_length left line c in
+    record { counted = rw q (omega arith); bound = omega (arith, n, h) }
 
-  pub next_line : {line : ℕ} → line ≤ at + 1 → line + 4 ≤ next + 1
-  next_line h = omega (arith, onward s at q x)
+module _ {full : List ℕ} {n : ℕ} {left : List Entry} (m : Measured full n left) where
+  pub measured_end : left ≡ [] → n ≡ length full
+  measured_end q = let h = rw q at m.counted in omega (arith, h)
 
-  pub next_length : {n w : ℕ} → n ≤ 3 * at → w ≤ 68 → n + w ≤ 3 * next
-  next_length h h' = omega (arith, onward s at q x)
+  module _ {entry : Entry} {more : List Entry} (q : left ≡ entry ∷ more) {w : ℕ} (e : (w ≡ length (entry_bytes entry)) × (w ≤ 68)) where
+    pub measured_fits : n + w ≤ 4456448
+    measured_fits = let h = rw q at m.bound in omega (arith, h, e.1)
+
+    pub measured_more : Measured full (n + w) more
+    measured_more =
+        let b = rw q at m.bound in
+        let h = rw q at m.counted in
+        record { counted = omega (arith, h, e.0, length-append (entry_bytes entry) (report_by more)); bound = omega (arith, b, e.1) }

@@ -13,8 +13,8 @@ use Rattle.rules.specs.Shows.{answer, shown}
 use Rattle.event.specs.declared.Event.{Event}
 use Rattle.trace.specs.Trace.{event_at}
 use Rattle.trace.specs.Whole.{Whole, Events, WrongLine, whole_by, events_from, events_of, whole_text_of}
-use Rattle.trace.specs.declared.Reading.{Reading}
-use Rattle.trace.specs.declared.Reading.TheVariants as reading
+use Rattle.trace.specs.declared.Misread.{Misread}
+use Rattle.std.specs.Prelude.{Result, Ok, Err}
 use Rattle.trace.proofs.Onward.{onward}
 use Rattle.trace.proofs.Canonical.{canonical}
 use Rattle.report.specs.Report.{entry_text, malformed_text}
@@ -28,7 +28,7 @@ module _ (s : List ℕ) where
   Told WrongLine = Stops s
 
   -- the text up to the end of the next event is that of the events with it
-  further : (at : ℕ) (h : History) → take at s ≡ whole_text_of h → {e : Event} {next : ℕ} → reading.Event e next ≡ event_at s at
+  further : (at : ℕ) (h : History) → take at s ≡ whole_text_of h → {e : Event} {next : ℕ} → Ok (e, next) ≡ event_at s at
       → take next s ≡ whole_text_of (e ∷ h)
   unfolding whole_text_of
   further at h t {e} {next} x =
@@ -43,14 +43,14 @@ module _ (s : List ℕ) where
 
   -- a line of the next event is wrong or missing
   stops : (at line : ℕ) (h : History) → take at s ≡ whole_text_of h → line ≡ 1 + 4 * length h → leb (length s) at ≡ false
-      → {i start : ℕ} → reading.Wrong i start ≡ event_at s at → report_of s ≡ entries_of h ++ malformed_text (line + i) → Stops s
-  stops at line h t n b {i} {start} x r =
+      → {w : Misread} → Err w ≡ event_at s at → report_of s ≡ entries_of h ++ malformed_text (line + w.line) → Stops s
+  stops at line h t n b {w} x r =
       let l : length (whole_text_of h) ≡ at = rw (← t) (length-take-le at s (omega (arith, leb-false (length s) at b))) in
       record {
         before = h;
         rest = drop at s;
-        line = i;
-        start = start;
+        line = w.line;
+        start = w.start;
         begins = rw (← t) (sym (take-append-drop at s));
         wrong = rw l (sym x);
         report = r ∙ ap (λ (m : ℕ). entries_of h ++ malformed_text m) (omega arith);
@@ -64,15 +64,15 @@ module _ (s : List ℕ) where
   told_from (suc k) at line h t n r = go (leb (length s) at) refl (event_at s at) refl r
       (λ next e. told_from k next (line + 4) (e ∷ h))
     where
-      go : (b : Bool) → leb (length s) at ≡ b → (x : Reading) → x ≡ event_at s at
+      go : (b : Bool) → leb (length s) at ≡ b → (x : Result (Event × ℕ) Misread) → x ≡ event_at s at
           → report_of s ≡ entries_of h ++ cond b [] (lines x line h (λ next h'. report_from k s next (line + 4) h'))
           → ((next : ℕ) (e : Event) → take next s ≡ whole_text_of (e ∷ h) → line + 4 ≡ 1 + 4 * length (e ∷ h)
           → report_of s ≡ entries_of (e ∷ h) ++ report_from k s next (line + 4) (e ∷ h) → Told (events_from k s next (e ∷ h)))
           → Told (cond b (Events h) (whole_by x h (λ next h'. events_from k s next h')))
       go true b x q r ih = r ∙ append-nil (entries_of h)
-      go false b (reading.Event e next) q r ih =
+      go false b (Ok (e, next)) q r ih =
           ih next e (further at h t q) (omega arith) (longer h e (report_from k s next (line + 4) (e ∷ h)) r)
-      go false b (reading.Wrong i start) q r ih = stops at line h t n b q r
+      go false b (Err w) q r ih = stops at line h t n b q r
 
   told : Told (events_of s)
   unfolding events_of report_of whole_text_of entries_of

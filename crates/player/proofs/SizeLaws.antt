@@ -11,16 +11,15 @@ use Rattle.integer.proofs.BoolLaws.{by_cases}
 use Rattle.integer.specs.Bits.{flag_of}
 use Rattle.event.specs.Kinds.{is_kind}
 use Rattle.event.specs.Answers.{number_of, data_of}
-use Rattle.event.specs.declared.Answer.{Answer}
-use Rattle.event.specs.declared.Answer.TheVariants.{Done, Refused}
+use Rattle.event.specs.declared.Refusal.{Refusal}
+use Rattle.std.specs.Prelude.{Result, Ok, Err}
 use Rattle.event.specs.declared.Event.{Event}
 use Rattle.event.specs.declared.Kind.TheVariants as kind
 use Rattle.event.proofs.Laws.{number_small}
 use Rattle.part.specs.declared.FanId.TheVariants.{One, Two}
 use Rattle.decimal.proofs.Laws.{decimal_width}
 use Rattle.trace.specs.Trace.{event_at}
-use Rattle.trace.specs.declared.Reading.{Reading}
-use Rattle.trace.specs.declared.Reading.TheVariants as reading
+use Rattle.trace.specs.declared.Misread.{Misread}
 use Rattle.trace.proofs.Onward.{onward, wrong_place}
 use Rattle.report.specs.Report.{entry_text}
 use Rattle.report.proofs.LengthLaws.{reply_length, pin_length, duty_length, entry_length, malformed_length}
@@ -33,9 +32,9 @@ use Rattle.player.specs.Report.{lines, report_from, report_of, Bounded}
 
 -- ---- the lines of an event
 
-refusal_data : (a : Answer) → accepts a ≡ false → data_of a ≡ 0
-refusal_data (Done d) e = absurd (true≢false e)
-refusal_data (Refused r) e = refl
+refusal_data : (a : Result ℕ Refusal) → accepts a ≡ false → data_of a ≡ 0
+refusal_data (Ok d) e = absurd (true≢false e)
+refusal_data (Err r) e = refl
 
 flag_small : (b : Bool) → flag_of b < 1000
 flag_small true = omega arith
@@ -73,16 +72,16 @@ module _ (s : List ℕ) (short : length s ≤ 65536) where
       (λ t. rw t (omega arith))
       (λ f. rw f (go (event_at s at) refl (λ e next n w. from_small k next (line + 4) (e ∷ h) w n)))
     where
-      go : (r : Reading) → r ≡ event_at s at
+      go : (r : Result (Event × ℕ) Misread) → r ≡ event_at s at
           → ((e : Event) (next : ℕ) → line + 4 ≤ next + 1 → next ≤ length s → length (report_from k s next (line + 4) (e ∷ h)) ≤ 3 * (length s - next) + 26)
           → length (lines r line h (λ next x. report_from k s next (line + 4) x)) ≤ 3 * (length s - at) + 26
-      go (reading.Event e next) q ih =
+      go (Ok (e, next)) q ih =
           let o = onward s at q refl in
           let rest = ih e next (omega (arith, o)) o.1 in
           omega (arith, o, rest, entry_small e h, length-append (entry_text (answer e h) (shown (taken (e ∷ h)))) (report_from k s next (line + 4) (e ∷ h)))
-      go (reading.Wrong i start) q ih =
+      go (Err m) q ih =
           let w = wrong_place s at (sym q) in
-          omega (arith, malformed_length (line + i), decimal_width 4 (line + i) (omega (arith, w.0)))
+          omega (arith, malformed_length (line + m.line), decimal_width 4 (line + m.line) (omega (arith, w.0)))
 
 pub bounded : Bounded
 unfolding report_of

@@ -1,3 +1,5 @@
 pub mod Report
 pub mod Played
 pub mod Reported
+pub mod Entries
+pub mod Left

@@ -1,16 +1,16 @@
 -- The same report by stepping a keeper, as the program works it out.
-use Rattle.std.specs.Prelude.{ℕ, zero, suc, ◌+◌, List, [], ◌++◌, cond, leb, length}
+use Rattle.std.specs.Prelude.{ℕ, zero, suc, ◌+◌, List, [], ◌++◌, cond, leb, length, Result, Ok, Err}
 use Rattle.trace.specs.Trace.{event_at}
-use Rattle.trace.specs.declared.Reading.{Reading}
-use Rattle.trace.specs.declared.Reading.TheVariants as reading
+use Rattle.trace.specs.declared.Misread.{Misread}
+use Rattle.event.specs.declared.Event.{Event}
 use Rattle.report.specs.Report.{entry_text, malformed_text}
 use Rattle.keeper.specs.Keeping.{outcome_of}
 use Rattle.keeper.specs.declared.Keeper.{Keeper}
 use Rattle.keeper.specs.declared.Keeper.TheVariants.{Off}
 
-abbrev pub lines_by : Reading → (line : ℕ) → Keeper → (rest : ℕ → Keeper → List ℕ) → List ℕ
-lines_by (reading.Event e next) line k rest = entry_text (outcome_of k e).answer (outcome_of k e).shown ++ rest next (outcome_of k e).keeper
-lines_by (reading.Wrong i start) line k rest = malformed_text (line + i)
+abbrev pub lines_by : Result (Event × ℕ) Misread → (line : ℕ) → Keeper → (rest : ℕ → Keeper → List ℕ) → List ℕ
+lines_by (Ok (e, next)) line k rest = entry_text (outcome_of k e).answer (outcome_of k e).shown ++ rest next (outcome_of k e).keeper
+lines_by (Err w) line k rest = malformed_text (line + w.line)
 
 unfoldable pub played_from : (fuel : ℕ) → List ℕ → (at line : ℕ) → Keeper → List ℕ
 played_from zero text at line k = []

@@ -1,10 +1,9 @@
 -- The report of a text by its events, those of `events_of` (document 01, "Trace text and report").
-use Rattle.std.specs.Prelude.{ℕ, ◌+◌, ◌*◌, ◌≡◌, List, [], ◌∷◌, ◌++◌, length}
+use Rattle.std.specs.Prelude.{ℕ, ◌+◌, ◌*◌, ◌≡◌, List, [], ◌∷◌, ◌++◌, length, Err}
 use Rattle.rules.specs.Replies.{History, taken}
 use Rattle.rules.specs.Shows.{answer, shown}
 use Rattle.trace.specs.Trace.{event_at}
 use Rattle.trace.specs.Whole.{Events, WrongLine, events_of, whole_text_of}
-use Rattle.trace.specs.declared.Reading.TheVariants.{Wrong}
 use Rattle.report.specs.Report.{entry_text, malformed_text}
 use Rattle.player.specs.Report.{report_of}
 
@@ -21,7 +20,7 @@ pub record Stops (text : List ℕ) : Type 0 where
   pub line : ℕ
   pub start : ℕ
   pub begins : text ≡ whole_text_of before ++ rest
-  pub wrong : event_at text (length (whole_text_of before)) ≡ Wrong line start
+  pub wrong : event_at text (length (whole_text_of before)) ≡ Err (record { line = line; start = start })
   -- the lines of those events, and then the number of that line, counted from 1
   pub report : report_of text ≡ entries_of before ++ malformed_text (1 + 4 * length before + line)
 

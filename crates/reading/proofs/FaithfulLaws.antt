@@ -8,7 +8,7 @@ use lib.Dec.{ltb}
 use lib.IntN.{ℤ, pos, negsuc, ◌+ℤ◌, ◌-ℤ◌, ◌*ℤ◌, sub_ℕ, +ℤ_idr}
 use lib.Signed.{lt_z}
 use Rattle.integer.specs.Range.{eighths_of}
-use Rattle.integer.specs.declared.Ranged.TheVariants.{In, Out}
+use Rattle.std.specs.Prelude.{Some, None}
 use Rattle.reading.specs.Reading.{byte_of, remainder_of}
 use Rattle.reading.specs.Limits.{tmin_edge_of, hysteresis_of}
 use Rattle.reading.proofs.Laws.{lossless}
@@ -92,21 +92,21 @@ lift_byte b h = go (ltb b 128) refl
     go true e = omega (arith, ltb-true b 128 e)
     go false e = omega (arith, ltb-false b 128 e)
 
-pub lift_reading : (t : ℤ) (r : ℕ) → eighths_of t ≡ In r → Lifted 1024 r t × (r < 2048)
+pub lift_reading : (t : ℤ) (r : ℕ) → eighths_of t ≡ Some r → Lifted 1024 r t × (r < 2048)
 unfolding Lifted eighths_of
 lift_reading (pos n) r e = go (ltb n 1024) refl e
   where
-    go : (t : Bool) → ltb n 1024 ≡ t → cond t (In (1024 + n)) Out ≡ In r → (r ≡ 1024 + n) × (r < 2048)
+    go : (t : Bool) → ltb n 1024 ≡ t → cond t (Some (1024 + n)) None ≡ Some r → (r ≡ 1024 + n) × (r < 2048)
     go true h q = let s : 1024 + n ≡ r = cc in (omega arith, omega (arith, ltb-true n 1024 h))
     go false h q = let z : ◌≡◌ {A = ℕ} 0 1 = cc in absurd (omega arith)
 lift_reading (negsuc n) r e = go (ltb n 1024) refl e
   where
-    go : (t : Bool) → ltb n 1024 ≡ t → cond t (In (1023 - n)) Out ≡ In r → (r + suc n ≡ 1024) × (r < 2048)
+    go : (t : Bool) → ltb n 1024 ≡ t → cond t (Some (1023 - n)) None ≡ Some r → (r + suc n ≡ 1024) × (r < 2048)
     go true h q = let s : 1023 - n ≡ r = cc in (omega (arith, ltb-true n 1024 h), omega arith)
     go false h q = let z : ◌≡◌ {A = ℕ} 0 1 = cc in absurd (omega arith)
 
 -- The comparisons with an edge of z degrees, which is held as `edge`.
-module _ (t : ℤ) (r : ℕ) (e : eighths_of t ≡ In r) (z : ℤ) (base : ℕ) (at : Lifted 128 base z) where
+module _ (t : ℤ) (r : ℕ) (e : eighths_of t ≡ Some r) (z : ℤ) (base : ℕ) (at : Lifted 128 base z) where
   lift_edge : Lifted 1024 (8 * base) (pos 8 *ℤ z)
   lift_edge = times_eight 128 base z at
 
@@ -136,7 +136,7 @@ unfolding Lifted
 rest_is (pos n) r p = omega arith
 rest_is (negsuc n) r p = omega arith
 
-pub faithful : (t : ℤ) (r : ℕ) → eighths_of t ≡ In r → Faithful t r
+pub faithful : (t : ℤ) (r : ℕ) → eighths_of t ≡ Some r → Faithful t r
 faithful t r e =
     record {
       whole = whole_is t r (lift_reading t r e).0 (lift_reading t r e).1;

@@ -1,7 +1,6 @@
 -- Document 02, T-01: the reading that a sample makes, both held with 1024 added. `FaithfulOffset` holds it to the rules, which are in signed numbers.
-use Rattle.std.specs.Prelude.{ℕ, ◌+◌, ◌-◌, ◌*◌, min, ◌≡◌, cond, ℤ}
+use Rattle.std.specs.Prelude.{ℕ, ◌+◌, ◌-◌, ◌*◌, min, ◌≡◌, cond, ℤ, Some}
 use Rattle.integer.specs.Range.{eighths_of}
-use Rattle.integer.specs.declared.Ranged.TheVariants.{In}
 use Rattle.part.specs.declared.ChannelId.{ChannelId}
 use Rattle.part.specs.declared.ChannelId.TheVariants.{Local, Remote1, Remote2}
 use Rattle.rules.specs.Fields.{offset_degrees, offset_subtracts}
@@ -23,5 +22,5 @@ measured_of c offset sample = min (top_of c) (shifted_of offset sample)
 -- what is held stands for the reading of the rules, for every offset byte and every sample in the range
 abbrev pub FaithfulOffset : Type 0
 FaithfulOffset =
-    (c : ChannelId) (offset : ℕ) (t : ℤ) (sample : ℕ) → eighths_of t ≡ In sample →
-    eighths_of (measured_z c offset t) ≡ In (measured_of c offset sample)
+    (c : ChannelId) (offset : ℕ) (t : ℤ) (sample : ℕ) → eighths_of t ≡ Some sample →
+    eighths_of (measured_z c offset t) ≡ Some (measured_of c offset sample)

@@ -11,13 +11,13 @@ use part::ChannelId;
 // ---- samples and offsets
 
 // The highest reading.
+// Stays: two numbers by one match; a table by channel would hold three.
 fn top(c: ChannelId) -> u16
     ensures { result ≡ top_of c }
 {
     match c {
         ChannelId::Local => 2046,
-        ChannelId::Remote1 => 2047,
-        ChannelId::Remote2 => 2047,
+        ChannelId::Remote1 | ChannelId::Remote2 => 2047,
     }
 }
 
@@ -25,27 +25,21 @@ fn top(c: ChannelId) -> u16
 fn shifted(offset: u8, sample: u16) -> u32
     ensures { result ≡ shifted_of offset sample }
 {
-    let eighths = 8 * (offset as u32 % 16);
+    let sample = u32::from(sample);
+    let eighths = 8 * u32::from(offset % 16);
     if integer::bit(offset, 7) {
-        if eighths < sample as u32 {
-            return sample as u32 - eighths;
-        }
-        return 0;
+        sample.saturating_sub(eighths)
+    } else {
+        sample + eighths
     }
-    sample as u32 + eighths
 }
 
 // The reading that a sample makes, by the byte of the channel's offset register.
+#[tactic(auto, unfolding(crate::specs::Offset::measured_of))]
 pub fn measured(c: ChannelId, offset: u8, sample: u16) -> u16
     ensures { result ≡ measured_of c offset sample }
 {
-    let highest = top(c);
-    let t = shifted(offset, sample);
-    if t < highest as u32 {
-        t as u16
-    } else {
-        highest
-    }
+    shifted(offset, sample).min(u32::from(top(c))) as u16
 }
 
 // ---- readings and bytes
@@ -65,17 +59,19 @@ pub fn remainder_of(reading: u16) -> u8
 pub fn reading_of(byte: u8, remainder: u8) -> u16
     ensures { result ≡ reading_of byte remainder }
 {
-    8 * ((byte as u16 + 128) % 256) + remainder as u16
+    8 * u16::from(byte.wrapping_add(128)) + u16::from(remainder)
 }
 
 // Register 0x06, from the three readings.
+// Stays: three numbers; the caller has whole channels, and would make a PerChannel of readings for this call alone.
 pub fn extended(local: u16, remote1: u16, remote2: u16) -> u8
     ensures { result ≡ extended_of (remainder_of local) (remainder_of remote1) (remainder_of remote2) }
 {
-    (remote1 % 8 + 8 * (remote2 % 8) + 64 * (local % 8 / 2)) as u8
+    remainder_of(remote1) + 8 * remainder_of(remote2) + 64 * (remainder_of(local) / 2)
 }
 
 // A channel's remainder in register 0x06.
+// Stays: each channel has other bits of the byte, by another formula.
 pub fn remainder_in(channel: ChannelId, byte: u8) -> u8
     ensures { result ≡ remainder_in channel byte }
 {
@@ -89,23 +85,23 @@ pub fn remainder_in(channel: ChannelId, byte: u8) -> u8
 // ---- limits
 
 // A limit's byte, as a reading.
-fn edge(limit: u8) -> u32
+fn edge(limit: u8) -> u16
     ensures { result ≡ edge_of limit }
 {
-    8 * ((limit as u32 + 128) % 256)
+    8 * u16::from(limit.wrapping_add(128))
 }
 
 // On above the edge, off more than five degrees below it, else as it was.
-fn hysteresis(on: bool, edge: u32, reading: u16) -> bool
+fn hysteresis(on: bool, edge: u16, reading: u16) -> bool
     ensures { result ≡ hysteresis_of on edge reading }
 {
-    if edge < reading as u32 {
-        return true;
+    if edge < reading {
+        true
+    } else if reading < edge.saturating_sub(40) {
+        false
+    } else {
+        on
     }
-    if reading as u32 + 40 < edge {
-        return false;
-    }
-    on
 }
 
 // A channel's THERM latch after a reading.
@@ -119,17 +115,17 @@ pub fn latched(on: bool, limit: u8, reading: u16) -> bool
 pub fn running(on: bool, tmin: u8, reading: u16) -> bool
     ensures { result ≡ running_of on tmin reading }
 {
-    hysteresis(on, 8 * tmin as u32 + 1024, reading)
+    hysteresis(on, 8 * u16::from(tmin) + 1024, reading)
 }
 
 pub fn is_high(limit: u8, reading: u16) -> bool
     ensures { result ≡ is_high limit reading }
 {
-    edge(limit) < reading as u32
+    edge(limit) < reading
 }
 
 pub fn is_low(limit: u8, reading: u16) -> bool
     ensures { result ≡ is_low limit reading }
 {
-    (reading as u32) < edge(limit)
+    reading < edge(limit)
 }

@@ -1,51 +1,42 @@
 -- T-07 of document 02, of a keeper as it stands: the age of a fan, beside the reason for its duty.
-use Rattle.std.specs.Prelude.{ℕ, cond, ℤ}
+use Rattle.std.specs.Prelude.{ℕ, cond, ℤ, Result, Ok, Err}
 use Rattle.part.specs.declared.FanId.{FanId}
 use Rattle.part.specs.declared.FanId.TheVariants.{One, Two}
-use Rattle.event.specs.declared.Aged.{Aged}
-use Rattle.event.specs.declared.Aged.TheVariants as aged
 use Rattle.event.specs.declared.Explanation.{Explanation}
 use Rattle.event.specs.declared.Refusal.{Refusal}
-use Rattle.event.specs.declared.Why.{Why}
-use Rattle.event.specs.declared.Why.TheVariants.{Because, Refused}
+use Rattle.event.specs.declared.Refusal.TheVariants.{NoSuchPart}
 use Rattle.rules.specs.Events.{is_number, fan_number}
 use Rattle.device.specs.Stamping.{age_of}
 use Rattle.device.specs.declared.Device.{Device}
-use Rattle.device.specs.declared.Stamps.{Stamps}
 use Rattle.keeper.specs.declared.Keeper.{Keeper}
-use Rattle.keeper.specs.declared.Keeper.TheVariants.{Off, On}
-use Rattle.reason.specs.Reasoning.{reason_of, why_in, why_of}
+use Rattle.keeper.specs.Keeping.{powered_device}
+use Rattle.reason.specs.Reasoning.{reason_of}
 
--- of a fan; of the fan of a number, 0 where it is no fan's
+-- of a fan
 abbrev pub explained_by : FanId → Device → Explanation
-explained_by f d = record { why = Because (reason_of f d.chip); age = age_of f d.stamps }
+explained_by f d = record { reason = reason_of f d.chip; age = age_of f d.stamps }
 
-unfoldable pub age_in : (fan : ℤ) → Stamps → ℕ
-age_in n s = cond (is_number n (fan_number One)) (age_of One s) (cond (is_number n (fan_number Two)) (age_of Two s) 0)
+-- the fan of a number, and what is told of it: 3 for a number that is no fan's
+abbrev pub fan_numbered : (fan : ℤ) → Result FanId Refusal
+fan_numbered n = cond (is_number n (fan_number One)) (Ok One) (cond (is_number n (fan_number Two)) (Ok Two) (Err NoSuchPart))
 
-unfoldable pub explanation_in : (fan : ℤ) → Device → Explanation
-unfolding why_in age_in
-explanation_in n d = record { why = why_in n d.chip; age = age_in n d.stamps }
+abbrev pub explained_in : Result FanId Refusal → Device → Result Explanation Refusal
+explained_in (Ok f) d = Ok (explained_by f d)
+explained_in (Err r) d = Err r
 
--- where nothing is told the age is 0
-abbrev pub unexplained_by : Refusal → Explanation
-unexplained_by r = record { why = Refused r; age = 0 }
+-- what T-03 tells, and the age beside it: 1 before power, then 3
+abbrev pub explained_with : Result Device Refusal → (fan : ℤ) → Result Explanation Refusal
+explained_with (Ok d) n = explained_in (fan_numbered n) d
+explained_with (Err r) n = Err r
 
-unfoldable pub age_with : Keeper → (fan : ℤ) → ℕ
-unfolding age_in
-age_with Off n = 0
-age_with (On d) n = age_in n d.stamps
+unfoldable pub explanation_of : Keeper → (fan : ℤ) → Result Explanation Refusal
+explanation_of k n = explained_with (powered_device k) n
 
--- what T-03 tells, and the age beside it
-unfoldable pub explanation_of : Keeper → (fan : ℤ) → Explanation
-unfolding why_of age_with
-explanation_of k n = record { why = why_of k n; age = age_with k n }
+-- the age alone, refused as the reason is
+abbrev pub age_alone : Result Explanation Refusal → Result ℕ Refusal
+age_alone (Ok x) = Ok x.age
+age_alone (Err r) = Err r
 
--- the age alone: refused as the reason is, with 1 before power and 3 for a number that is no fan's
-abbrev pub age_or : Why → (clocks : ℕ) → Aged
-age_or (Because r) n = aged.Clocks n
-age_or (Refused r) n = aged.Refused r
-
-unfoldable pub aged_of : Keeper → (fan : ℤ) → Aged
-unfolding why_of age_with
-aged_of k n = age_or (why_of k n) (age_with k n)
+unfoldable pub aged_of : Keeper → (fan : ℤ) → Result ℕ Refusal
+unfolding explanation_of
+aged_of k n = age_alone (explanation_of k n)

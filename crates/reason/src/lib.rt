@@ -3,16 +3,16 @@
 // It stands beside the keeper and changes nothing.
 ghost use Rattle.std.specs.Prelude.{◌≡◌, not, ◌&&◌, eqb};
 ghost use Rattle.rules.specs.Reasons.{lowest_with, ramp_to};
-ghost use Rattle.reason.specs.Reasoning.{latched_in, asking_in, reason_under, drive_of, reason_of};
-ghost use Rattle.reason.specs.Aging.{explained_by, unexplained_by, explanation_in, explanation_of, aged_of};
+ghost use Rattle.reason.specs.Reasoning.{latched_in, asking_in, reason_under, reason_of};
+ghost use Rattle.reason.specs.Aging.{explained_by, fan_numbered, explanation_of, aged_of};
 
-use channel::Channels;
+use channel::Channel;
 use chip::Chip;
 use device::Device;
 use drive::{Drive, Setting};
-use event::{Aged, Explanation, Ramp, Reason, Refusal, Why};
+use event::{Explanation, Ramp, Reason, Refusal};
 use keeper::Keeper;
-use part::{ChannelId, FanId};
+use part::{ChannelId, FanId, PerChannel};
 use stored::Registers;
 
 // The first of the channels that is named; the last, where neither of the others is.
@@ -30,18 +30,19 @@ fn lowest_with(local: bool, remote1: bool) -> ChannelId
 }
 
 // The lowest channel whose latch is on.
-fn latched_in(cs: Channels) -> ChannelId
+fn latched_in(cs: PerChannel<Channel>) -> ChannelId
     ensures { result ≡ latched_in cs }
 {
     lowest_with(cs.local.latch, cs.remote1.latch)
 }
 
 // The lowest channel that asks for the target, the largest demand.
-fn asking_in(f: FanId, target: u8, s: Registers, cs: Channels) -> ChannelId
+#[tactic(auto, unfolding(crate::specs::Reasoning::asking_in))]
+fn asking_in(f: FanId, target: u8, s: Registers, cs: PerChannel<Channel>) -> ChannelId
     ensures { result ≡ asking_in f target s cs }
 {
-    let local = fan::channel_asked(f, ChannelId::Local, s, s.local, cs.local);
-    let remote1 = fan::channel_asked(f, ChannelId::Remote1, s, s.remote1, cs.remote1);
+    let local = fan::channel_asked(f, ChannelId::Local, s, s.channels.local, cs.local);
+    let remote1 = fan::channel_asked(f, ChannelId::Remote1, s, s.channels.remote1, cs.remote1);
     lowest_with(local == target, remote1 == target)
 }
 
@@ -49,18 +50,10 @@ fn asking_in(f: FanId, target: u8, s: Registers, cs: Channels) -> ChannelId
 fn ramp_to(target: u8, duty: u8) -> Ramp
     ensures { result ≡ ramp_to target duty }
 {
-    if duty < target {
-        Ramp {
-            left: target - duty,
-            up: true,
-            target,
-        }
-    } else {
-        Ramp {
-            left: duty - target,
-            up: false,
-            target,
-        }
+    Ramp {
+        left: target.abs_diff(duty),
+        up: duty < target,
+        target,
     }
 }
 
@@ -72,6 +65,7 @@ fn on_the_way(s: Setting, w: Drive) -> bool
 }
 
 // By what is asked of a fan, and by its duty and spin-up.
+#[tactic(auto, unfolding(crate::specs::Reasoning::reason_under))]
 fn reason_under(f: FanId, s: Setting, w: Drive, k: Chip) -> Reason
     ensures { result ≡ reason_under f s w k }
 {
@@ -99,74 +93,49 @@ fn reason_under(f: FanId, s: Setting, w: Drive, k: Chip) -> Reason
     Reason::Demand(asking_in(f, s.target, k.registers, k.channels))
 }
 
-fn drive_of(f: FanId, k: Chip) -> Drive
-    ensures { result ≡ drive_of f k }
-{
-    match f {
-        FanId::One => k.fan1.drive,
-        FanId::Two => k.fan2.drive,
-    }
-}
-
+#[tactic(auto, unfolding(crate::specs::Reasoning::reason_of))]
 fn reason_of(f: FanId, k: Chip) -> Reason
     ensures { result ≡ reason_of f k }
 {
     let s = fan::setting(f, k.port.pin_low, k.registers, k.channels);
-    reason_under(f, s, drive_of(f, k), k)
+    reason_under(f, s, k.fans.get(f).drive, k)
 }
 
-// Of a fan, where there is power: the reason, and the age beside it.
+// Of a fan, where there is power.
 fn explained(f: FanId, d: Device) -> Explanation
     ensures { result ≡ explained_by f d }
 {
     let reason = reason_of(f, d.chip);
-    Explanation {
-        why: Why::Because(reason),
-        age: device::age(f, d.stamps),
-    }
+    let age = device::age(f, d.stamps);
+    Explanation { reason, age }
 }
 
-// Where nothing is told.
-fn unexplained(r: Refusal) -> Explanation
-    ensures { result ≡ unexplained_by r }
+// The fan of a number: 3 for one that is neither fan's.
+fn fan_numbered(fan: i32) -> Result<FanId, Refusal>
+    ensures { result ≡ fan_numbered fan }
 {
-    Explanation {
-        why: Why::Refused(r),
-        age: 0,
+    match fan {
+        1 => Ok(FanId::One),
+        2 => Ok(FanId::Two),
+        _ => Err(Refusal::NoSuchPart),
     }
-}
-
-// Of the fan of a number, where there is power.
-fn explanation_in(fan: i32, d: Device) -> Explanation
-    ensures { result ≡ explanation_in fan d }
-{
-    if fan == 1 {
-        return explained(FanId::One, d);
-    }
-    if fan == 2 {
-        return explained(FanId::Two, d);
-    }
-    unexplained(Refusal::NoSuchPart)
 }
 
 // Why the fan of a number has its duty, and its age: 1 before the first power, 3 for a number that is neither fan's.
-pub fn why(k: Keeper, fan: i32) -> Explanation
+// Stays: a fan by number, here and in `age`: README promises 3 for one that is no fan's.
+#[tactic(auto, unfolding(crate::specs::Aging::explanation_of))]
+pub fn why(k: Keeper, fan: i32) -> Result<Explanation, Refusal>
     ensures { result ≡ explanation_of k fan }
 {
-    match k {
-        Keeper::Off => unexplained(Refusal::NoPower),
-        Keeper::On(d) => explanation_in(fan, d),
-    }
+    let device = k.device()?;
+    let fan = fan_numbered(fan)?;
+    Ok(explained(fan, device))
 }
 
 // Its age alone, the clock events since it started, modulo 65,536; 1 and 3 as before.
-pub fn age(k: Keeper, fan: i32) -> Aged
+#[tactic(auto, unfolding(crate::specs::Aging::aged_of))]
+pub fn age(k: Keeper, fan: i32) -> Result<u16, Refusal>
     ensures { result ≡ aged_of k fan }
 {
-    let told = why(k, fan);
-    let answer = told.why;
-    match answer {
-        Why::Because(_) => Aged::Clocks(told.age),
-        Why::Refused(r) => Aged::Refused(r),
-    }
+    Ok(why(k, fan)?.age)
 }

@@ -1,15 +1,20 @@
 -- How many digits numbers have, and how long the texts of a report are. Assumes nothing.
 use Prim.Native.Nat.{ℕ, ◌+◌, ◌/◌, ◌%◌, ◌≤◌, ◌<◌}
-use mathlib.Core.Path.{◌≡◌, ap, ◌∙◌}
+use mathlib.Core.Path.{◌≡◌, sym, ap, ◌∙◌}
 use mathlib.Core.List.{List, [], ◌∷◌}
 use native.Mathlib.Omega.{arith}
 use lib.ListN.{length, length-append}
-use mir.Syntax.{w32}
-use mir.Val.{Fits}
+use lib.Dec.{leb}
+use borrow.Author.Tests.{le-leb, lt-leb}
+use Rattle.std.proofs.Common.{inl, inr}
+use Rattle.std.proofs.lemmas.Bool.{cases_lt}
+use mir.Syntax.{w8}
+use mir.Val.{Fits, bool_byte}
 use Rattle.decimal.specs.Decimal.{decimal_of}
-use Rattle.decimal.proofs.Laws.{decimal_small, decimal_large, decimal_length, word_width}
+use Rattle.decimal.proofs.Laws.{decimal_small, decimal_large, small_length}
 use Rattle.event.specs.Answers.{number_of, data_of}
-use Rattle.event.specs.declared.Answer.{Answer}
+use Rattle.event.specs.declared.Refusal.{Refusal}
+use Rattle.std.specs.Prelude.{Result}
 use Rattle.event.specs.declared.Shown.{Shown}
 use Rattle.report.specs.Report.{field_text, answer_text, reply_text, pin_text, duty_text, entry_text, malformed_text}
 
@@ -24,15 +29,27 @@ decimal_three v h h' =
     let q : v / 10 / 10 ≡ v / 100 = omega arith in
     rw (decimal_large v (omega arith), decimal_two (v / 10) (omega arith) (omega arith), q)
 
-pub width_two : (v : ℕ) → 10 ≤ v → v < 100 → 2 ≡ length (decimal_of v)
+width_two : (v : ℕ) → 10 ≤ v → v < 100 → 2 ≡ length (decimal_of v)
 width_two v h h' = rw (decimal_two v h h')
 
-pub width_three : (v : ℕ) → 100 ≤ v → v < 256 → 3 ≡ length (decimal_of v)
+width_three : (v : ℕ) → 100 ≤ v → v < 256 → 3 ≡ length (decimal_of v)
 width_three v h h' = rw (decimal_three v h (omega arith))
 
--- a number of 32 bits has at most ten
-pub ten_digits : (n : ℕ) {k : ℕ} → 10 ≤ n → k ≡ length (decimal_of (n / 10)) → Fits w32 n → k + 1 ≤ 10
-ten_digits n h e f = omega (arith, decimal_length n h, word_width n f)
+-- one, and one more from 10 and from 100 on
+pub width_is : (v : ℕ) → Fits w8 v → {a b : ℕ} → a ≡ bool_byte (leb 10 v) → b ≡ bool_byte (leb 100 v) → (1 + a + b ≡ length (decimal_of v)) × (1 + a + b ≤ 3)
+width_is v f {a} {b} h k =
+    elim (cases_lt v 10) [
+      | inl l ↦
+          let a0 : a ≡ 0 = rw (lt-leb 10 v l) at h in
+          let b0 : b ≡ 0 = rw (lt-leb 100 v (omega arith)) at k in
+          (rw (a0, b0) (sym (small_length v l)), omega arith)
+      | inr m ↦
+          let a1 : a ≡ 1 = rw (le-leb 10 v m) at h in
+          elim (cases_lt v 100) [
+            | inl l ↦ let b0 : b ≡ 0 = rw (lt-leb 100 v l) at k in (rw (a1, b0) (width_two v m l), omega arith)
+            | inr n ↦ let b1 : b ≡ 1 = rw (le-leb 100 v n) at k in (rw (a1, b1) (width_three v n (omega arith)), omega arith)
+          ]
+    ]
 
 -- ---- how long the texts are
 
@@ -44,7 +61,7 @@ answer_length : (n : ℕ) → length (answer_text n) ≡ 8 + length (decimal_of 
 unfolding answer_text
 answer_length n = simp field_length (omega arith)
 
-pub reply_length : (a : Answer) → length (reply_text a) ≡ 14 + length (decimal_of (number_of a)) + length (decimal_of (data_of a))
+pub reply_length : (a : Result ℕ Refusal) → length (reply_text a) ≡ 14 + length (decimal_of (number_of a)) + length (decimal_of (data_of a))
 unfolding reply_text
 reply_length a = simp (length-append, answer_length, field_length) (omega arith)
 
@@ -57,7 +74,7 @@ module _ (s : Shown) where
   unfolding duty_text
   duty_length = simp (length-append, field_length) (omega arith)
 
-pub entry_length : (a : Answer) (s : Shown) → length (entry_text a s) ≡ length (reply_text a) + length (pin_text s) + length (duty_text s)
+pub entry_length : (a : Result ℕ Refusal) (s : Shown) → length (entry_text a s) ≡ length (reply_text a) + length (pin_text s) + length (duty_text s)
 unfolding entry_text
 entry_length a s = simp length-append (omega arith)
 
@@ -69,7 +86,7 @@ malformed_length line =
 
 -- ---- from the parts' lengths, as they were worked out
 
-module _ (a : Answer) (s : Shown) {n m : ℕ} (hn : n ≡ number_of a) (hm : m ≡ data_of a) where
+module _ (a : Result ℕ Refusal) (s : Shown) {n m : ℕ} (hn : n ≡ number_of a) (hm : m ≡ data_of a) where
   pub entry_sum : {x y i t f u v : ℕ} → x ≡ length (decimal_of n) → y ≡ length (decimal_of m)
       → i ≡ length (decimal_of s.int) → t ≡ length (decimal_of s.therm) → f ≡ length (decimal_of s.fault)
       → u ≡ length (decimal_of s.duty1) → v ≡ length (decimal_of s.duty2) → 47 + (x + y) + (i + t + f) + (u + v) ≡ length (entry_text a s)

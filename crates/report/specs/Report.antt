@@ -1,8 +1,8 @@
 -- Document 01, "Trace text and report": the seven lines of an event, and the endings. Names are bytes.
-use Rattle.std.specs.Prelude.{ℕ, List, [], ◌∷◌, ◌++◌}
+use Rattle.std.specs.Prelude.{ℕ, List, [], ◌∷◌, ◌++◌, Result}
 use Rattle.decimal.specs.Decimal.{decimal_of}
 use Rattle.event.specs.Answers.{number_of, data_of, refusal_number}
-use Rattle.event.specs.declared.Answer.{Answer}
+use Rattle.event.specs.declared.Refusal.{Refusal}
 use Rattle.event.specs.declared.Refusal.TheVariants.{Malformed}
 use Rattle.event.specs.declared.Shown.{Shown}
 
@@ -17,7 +17,7 @@ unfolding field_text
 answer_text number = field_text (97 ∷ 110 ∷ 115 ∷ 119 ∷ 101 ∷ 114 ∷ 61 ∷ []) number
 
 -- answer= and data=
-unfoldable pub reply_text : Answer → List ℕ
+unfoldable pub reply_text : Result ℕ Refusal → List ℕ
 unfolding answer_text field_text
 reply_text a = answer_text (number_of a) ++ field_text (100 ∷ 97 ∷ 116 ∷ 97 ∷ 61 ∷ []) (data_of a)
 
@@ -37,7 +37,7 @@ duty_text s =
     ++ field_text (100 ∷ 117 ∷ 116 ∷ 121 ∷ 50 ∷ 61 ∷ []) s.duty2
 
 -- the seven lines of an event
-unfoldable pub entry_text : Answer → Shown → List ℕ
+unfoldable pub entry_text : Result ℕ Refusal → Shown → List ℕ
 unfolding reply_text pin_text duty_text
 entry_text answer shown = reply_text answer ++ (pin_text shown ++ duty_text shown)
 

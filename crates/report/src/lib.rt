@@ -8,34 +8,17 @@ ghost use Rattle.decimal.specs.Decimal.{decimal_of};
 ghost use Rattle.buffer.specs.Put.{put_of, held_of};
 ghost use Rattle.report.specs.Report.{field_text, answer_text, reply_text, pin_text, duty_text, entry_text, malformed_text};
 
-use buffer::Put;
-use event::{Answer, Refusal, Shown};
+use event::{Refusal, Shown};
 
 // How many digits a byte has.
 fn width(v: u8) -> usize
     ensures { (result ≡ length (decimal_of v)) × (result ≤ 3) }
 {
-    if v < 10 {
-        1
-    } else if v < 100 {
-        2
-    } else {
-        3
-    }
-}
-
-// How many digits a number has.
-fn digits(n: u32) -> usize
-    ensures { (result ≡ length (decimal_of n)) × (result ≤ 10) }
-{
-    if n < 10 {
-        return 1;
-    }
-    digits(n / 10) + 1
+    1 + usize::from(v >= 10) + usize::from(v >= 100)
 }
 
 // The length of the seven lines of an event: names and newlines are 47 bytes.
-pub fn entry_len(answer: Answer, shown: Shown) -> usize
+pub fn entry_len(answer: Result<u8, Refusal>, shown: Shown) -> usize
     ensures { (result ≡ length (entry_text answer shown)) × (result ≤ 68) }
 {
     let reply = width(event::number_of(answer)) + width(event::data_of(answer));
@@ -44,11 +27,11 @@ pub fn entry_len(answer: Answer, shown: Shown) -> usize
     47 + reply + pins + duties
 }
 
-// The length of the ending of malformed text.
+// The length of the ending of malformed text. The digits that have no room are counted too.
 pub fn malformed_len(line: u32) -> usize
     ensures { (result ≡ length (malformed_text line)) × (result ≤ 26) }
 {
-    16 + digits(line)
+    16 + buffer::put_decimal(line, &mut [], 0)
 }
 
 // The length of the line of an answer's number.
@@ -57,6 +40,9 @@ fn number_len(number: u8) -> usize
 {
     8 + width(number)
 }
+
+// Stays: straight into the buffer, each with its room, a report costs 94 instructions an event; put together aside, as a trace line is, 1,304.
+// A struct of the buffer and the index would say both equations of each clause again, of its two fields.
 
 // A digit where it has room, and the index after it.
 fn put_digit(v: u32, buf: &mut [u8], at: usize) -> usize
@@ -99,14 +85,13 @@ fn put_digits(v: u32, buf: &mut [u8], at: usize) -> usize
 }
 
 // A name where it has room. Its length is known at each call, so that the compiler needs no loop.
+// Stays: byte by byte, as `buffer::put_bytes`.
 fn put_name(name: &[u8], buf: &mut [u8], at: usize)
     requires { at + length name.now ≤ length buf.old }
     ensures { buf.new ≡ sets buf.old at name.now }
 {
-    let mut i = 0;
-    while i < name.len() {
-        buf[at + i] = name[i];
-        i += 1;
+    for (skip, byte) in name.iter().enumerate() {
+        buf[at + skip] = *byte;
     }
 }
 
@@ -123,7 +108,7 @@ fn put_line(name: &[u8], v: u32, buf: &mut [u8], at: usize) -> usize
 }
 
 // answer= and data=, then the pins, then the duties: each where it has room, and the index after it.
-fn put_reply(a: Answer, buf: &mut [u8], at: usize) -> usize
+fn put_reply(a: Result<u8, Refusal>, buf: &mut [u8], at: usize) -> usize
     requires { at + length (reply_text a) ≤ length buf.old }
     ensures value { result ≡ at + length (reply_text a) }
     ensures buf_after { buf.new ≡ sets buf.old at (reply_text a) }
@@ -152,7 +137,7 @@ fn put_duties(s: Shown, buf: &mut [u8], at: usize) -> usize
 }
 
 // The seven lines of an event where they have room, and the index after them.
-fn put_lines(answer: Answer, shown: Shown, buf: &mut [u8], at: usize) -> usize
+fn put_lines(answer: Result<u8, Refusal>, shown: Shown, buf: &mut [u8], at: usize) -> usize
     requires { at + length (entry_text answer shown) ≤ length buf.old }
     ensures value { result ≡ at + length (entry_text answer shown) }
     ensures buf_after { buf.new ≡ sets buf.old at (entry_text answer shown) }
@@ -168,51 +153,58 @@ fn put_ending(line: u32, buf: &mut [u8], at: usize) -> usize
     ensures value { result ≡ at + length (malformed_text line) }
     ensures buf_after { buf.new ≡ sets buf.old at (malformed_text line) }
 {
-    let number = event::refusal_number(Refusal::Malformed);
+    let number = Refusal::Malformed.number();
     let a = put_line(b"answer=", number as u32, buf, at);
     put_line(b"line=", line, buf, a)
 }
 
+// Stays: one function over these three would take a closure, whose clauses are longer than the test that each has.
+
 // The seven lines of an event.
-pub fn put_entry(answer: Answer, shown: Shown, buf: &mut [u8], at: usize) -> Put
+pub fn put_entry(
+    answer: Result<u8, Refusal>,
+    shown: Shown,
+    buf: &mut [u8],
+    at: usize,
+) -> Result<usize, Refusal>
     ensures value { result ≡ put_of buf.old at (entry_text answer shown) }
     ensures buf_after { buf.new ≡ held_of buf.old at (entry_text answer shown) }
 {
     if buffer::fits(at, entry_len(answer, shown), buf.len()) {
-        Put::End(put_lines(answer, shown, buf, at))
+        Ok(put_lines(answer, shown, buf, at))
     } else {
-        Put::Refused(Refusal::WrongSize)
+        Err(Refusal::WrongSize)
     }
 }
 
 // The ending of malformed text, with the number of its first wrong line.
-pub fn put_malformed(line: u32, buf: &mut [u8], at: usize) -> Put
+pub fn put_malformed(line: u32, buf: &mut [u8], at: usize) -> Result<usize, Refusal>
     ensures value { result ≡ put_of buf.old at (malformed_text line) }
     ensures buf_after { buf.new ≡ held_of buf.old at (malformed_text line) }
 {
     if buffer::fits(at, malformed_len(line), buf.len()) {
-        Put::End(put_ending(line, buf, at))
+        Ok(put_ending(line, buf, at))
     } else {
-        Put::Refused(Refusal::WrongSize)
+        Err(Refusal::WrongSize)
     }
 }
 
 // The line of an answer's number: the whole report of a text that is refused.
-pub fn put_number(number: u8, buf: &mut [u8], at: usize) -> Put
+pub fn put_number(number: u8, buf: &mut [u8], at: usize) -> Result<usize, Refusal>
     ensures value { result ≡ put_of buf.old at (answer_text number) }
     ensures buf_after { buf.new ≡ held_of buf.old at (answer_text number) }
 {
     if buffer::fits(at, number_len(number), buf.len()) {
-        Put::End(put_line(b"answer=", number as u32, buf, at))
+        Ok(put_line(b"answer=", number as u32, buf, at))
     } else {
-        Put::Refused(Refusal::WrongSize)
+        Err(Refusal::WrongSize)
     }
 }
 
 // The line of a refusal's number, at the start of a buffer.
-pub fn put_refusal(r: Refusal, buf: &mut [u8]) -> Put
+pub fn put_refusal(r: Refusal, buf: &mut [u8]) -> Result<usize, Refusal>
     ensures value { result ≡ put_of buf.old 0 (answer_text (refusal_number r)) }
     ensures buf_after { buf.new ≡ held_of buf.old 0 (answer_text (refusal_number r)) }
 {
-    put_number(event::refusal_number(r), buf, 0)
+    put_number(r.number(), buf, 0)
 }

@@ -9,19 +9,12 @@ use lib.IntN.{ℤ}
 use lib.ListN.{length, drop}
 use lib.Seq.{drop-nil}
 use borrow.Author.Tests.{lt-leb}
-use Rattle.decimal.specs.declared.Decimal.{Decimal}
-use Rattle.decimal.specs.declared.Decimal.TheVariants.{Number, Malformed}
+use Rattle.std.specs.Prelude.{Option, Some, None, Result, Ok, Err}
 use Rattle.event.specs.declared.Kind.{Kind}
 use Rattle.integer.proofs.BoolLaws.{either}
 use Rattle.line.specs.Line.{first_line, line_at, end_at}
-use Rattle.trace.specs.declared.Word.{Word}
-use Rattle.trace.specs.declared.Word.TheVariants.{Known, Unknown}
-use Rattle.trace.specs.declared.Named.{Named}
-use Rattle.trace.specs.declared.Named.TheVariants as named
-use Rattle.trace.specs.declared.Field.{Field}
-use Rattle.trace.specs.declared.Field.TheVariants as field
-use Rattle.trace.specs.declared.Reading.{Reading}
-use Rattle.trace.specs.declared.Reading.TheVariants as reading
+use Rattle.trace.specs.declared.Misread.{Misread}
+use Rattle.event.specs.declared.Event.{Event}
 use Rattle.trace.specs.Words.{who_name, arg_name, val_name, kind_named, named_by, kind_line}
 use Rattle.trace.specs.Trace.{number_named, given_by, number_line, after_val, after_arg, after_who, after_kind, event_at}
 use Rattle.rewriter.specs.Rewritten.{copy_end}
@@ -36,29 +29,29 @@ drop_more (suc m) n (x ∷ l) = drop_more m n l ∙ ap (λ (k : ℕ). drop k (x 
 
 module _ (s : List ℕ) where
   -- the next line starts behind the newline of one that was read
-  abbrev NextField : ℕ → Field → Type 0
-  NextField at (field.Number v next) = next ≡ end_at s at + 1
-  NextField at field.Wrong = Unit {0}
+  abbrev NextField : ℕ → Option (ℤ × ℕ) → Type 0
+  NextField at (Some (v, next)) = next ≡ end_at s at + 1
+  NextField at None = Unit {0}
 
-  abbrev NextNamed : ℕ → Named → Type 0
-  NextNamed at (named.Kind k next) = next ≡ end_at s at + 1
-  NextNamed at named.Wrong = Unit {0}
+  abbrev NextNamed : ℕ → Option (Kind × ℕ) → Type 0
+  NextNamed at (Some (k, next)) = next ≡ end_at s at + 1
+  NextNamed at None = Unit {0}
 
   next_number : (name : List ℕ) (at : ℕ) → NextField at (number_line name s at)
   unfolding number_line
   next_number name at = either (NextField at) (ltb (end_at s at) (length s)) (given (number_named name (line_at s at))) tt
     where
-      given : (d : Decimal) → NextField at (given_by (end_at s at + 1) d)
-      given (Number z) = refl
-      given Malformed = tt
+      given : (d : Option ℤ) → NextField at (given_by (end_at s at + 1) d)
+      given (Some z) = refl
+      given None = tt
 
   next_kind : (at : ℕ) → NextNamed at (kind_line s at)
   unfolding kind_line
   next_kind at = either (NextNamed at) (ltb (end_at s at) (length s)) (given (kind_named (line_at s at))) tt
     where
-      given : (w : Word) → NextNamed at (named_by (end_at s at + 1) w)
-      given (Known k) = refl
-      given Unknown = tt
+      given : (w : Option Kind) → NextNamed at (named_by (end_at s at + 1) w)
+      given (Some k) = refl
+      given None = tt
 
   behind : (at next : ℕ) → next ≡ end_at s at + 1 → drop next s ≡ behind_line (drop at s)
   unfolding end_at line_at
@@ -68,31 +61,33 @@ module _ (s : List ℕ) where
       assoc a b = omega arith
 
   -- a wrong line by its place among the four
-  abbrev Counted : ℕ → Reading → Type 0
-  Counted at (reading.Event e next) = Unit {0}
-  Counted at (reading.Wrong i start) = line_at s start ≡ first_line (behind_lines i (drop at s))
+  abbrev Counted : ℕ → Result (Event × ℕ) Misread → Type 0
+  Counted at (Ok (e, next)) = Unit {0}
+  Counted at (Err w) = line_at s w.start ≡ first_line (behind_lines w.line (drop at s))
 
   counted : (at : ℕ) → Counted at (event_at s at)
   unfolding event_at line_at behind_lines
   counted at = kinds (kind_line s at) (next_kind at)
     where
-      vals : (at3 : ℕ) → drop at3 s ≡ behind_lines 3 (drop at s) → (k : Kind) (who arg : ℤ) (f : Field) → Counted at (after_val at3 k who arg f)
-      vals at3 q k who arg (field.Number val next) = tt
-      vals at3 q k who arg field.Wrong = ap first_line q
+      vals : (at3 : ℕ) → drop at3 s ≡ behind_lines 3 (drop at s) → (k : Kind) (who arg : ℤ) (f : Option (ℤ × ℕ)) → Counted at (after_val at3 k who arg f)
+      vals at3 q k who arg (Some (val, next)) = tt
+      vals at3 q k who arg None = ap first_line q
 
-      args : (at2 : ℕ) → drop at2 s ≡ behind_lines 2 (drop at s) → (k : Kind) (who : ℤ) (f : Field) → NextField at2 f → Counted at (after_arg s at2 k who f)
-      args at2 q k who (field.Number arg next) n = vals next (behind at2 next n ∙ ap behind_line q) k who arg (number_line val_name s next)
-      args at2 q k who field.Wrong n = ap first_line q
+      args : (at2 : ℕ) → drop at2 s ≡ behind_lines 2 (drop at s) → (k : Kind) (who : ℤ) (f : Option (ℤ × ℕ)) → NextField at2 f
+          → Counted at (after_arg s at2 k who f)
+      args at2 q k who (Some (arg, next)) n = vals next (behind at2 next n ∙ ap behind_line q) k who arg (number_line val_name s next)
+      args at2 q k who None n = ap first_line q
 
-      whos : (at1 : ℕ) → drop at1 s ≡ behind_lines 1 (drop at s) → (k : Kind) (f : Field) → NextField at1 f → Counted at (after_who s at1 k f)
-      whos at1 q k (field.Number who next) n = args next (behind at1 next n ∙ ap behind_line q) k who (number_line arg_name s next) (next_number arg_name next)
-      whos at1 q k field.Wrong n = ap first_line q
+      whos : (at1 : ℕ) → drop at1 s ≡ behind_lines 1 (drop at s) → (k : Kind) (f : Option (ℤ × ℕ)) → NextField at1 f → Counted at (after_who s at1 k f)
+      whos at1 q k (Some (who, next)) n = args next (behind at1 next n ∙ ap behind_line q) k who (number_line arg_name s next) (next_number arg_name next)
+      whos at1 q k None n = ap first_line q
 
-      kinds : (r : Named) → NextNamed at r → Counted at (after_kind s at r)
-      kinds (named.Kind k next) n = whos next (behind at next n) k (number_line who_name s next) (next_number who_name next)
-      kinds named.Wrong n = refl
+      kinds : (r : Option (Kind × ℕ)) → NextNamed at r → Counted at (after_kind s at r)
+      kinds (Some (k, next)) n = whos next (behind at next n) k (number_line who_name s next) (next_number who_name next)
+      kinds None n = refl
 
-by_count_lem : (text : List ℕ) (i start : ℕ) → copy_end text (length text) < length text → event_at text (copy_end text (length text)) ≡ reading.Wrong i start
+by_count_lem : (text : List ℕ) (i start : ℕ) → copy_end text (length text) < length text
+    → event_at text (copy_end text (length text)) ≡ Err (record { line = i; start = start })
     → wrong_line text ≡ first_line (behind_lines i (drop (copy_end text (length text)) text))
 by_count_lem text i start h q =
     let at = copy_end text (length text) in

@@ -8,8 +8,9 @@ use lib.Dec.{leb}
 use lib.ListN.{length}
 use borrow.Author.Tests.{le-leb, lt-leb}
 use Rattle.trace.specs.Trace.{event_at}
-use Rattle.trace.specs.declared.Reading.{Reading}
-use Rattle.trace.specs.declared.Reading.TheVariants as reading
+use Rattle.trace.specs.declared.Misread.{Misread}
+use Rattle.event.specs.declared.Event.{Event}
+use Rattle.std.specs.Prelude.{Result, Ok, Err}
 use Rattle.trace.proofs.Onward.{onward}
 use Rattle.rewriter.specs.Rewritten.{copy_end_by, copy_end_from, copy_end}
 use Rattle.rewriter.specs.Wrong.{wrong_line_by, wrong_line_from, wrong_line}
@@ -23,13 +24,14 @@ unfolding wrong_line_from copy_end_from
 stops_from zero s at h = sym (rw (le-leb (length s) at (omega arith)))
 stops_from (suc k) s at h = go (event_at s at) refl (λ next p. stops_from k s next (omega arith))
   where
-    go : (r : Reading) → r ≡ event_at s at → ((next : ℕ) → at < next → wrong_line_from k s next ≡ wrong_at s (copy_end_from k s next (length s)))
+    go : (r : Result (Event × ℕ) Misread) → r ≡ event_at s at
+        → ((next : ℕ) → at < next → wrong_line_from k s next ≡ wrong_at s (copy_end_from k s next (length s)))
         → cond (leb (length s) at) [] (wrong_line_by r s (λ next. wrong_line_from k s next))
         ≡ wrong_at s (copy_end_by r at (length s) (λ next. copy_end_from k s next (length s)))
-    go (reading.Event e next) q ih =
+    go (Ok (e, next)) q ih =
         let o = onward s at q refl in
         rw (lt-leb (length s) at (omega (arith, o)), le-leb next (length s) (omega (arith, o))) (ih next (omega (arith, o)))
-    go (reading.Wrong i st) q ih = rw (← q)
+    go (Err w) q ih = rw (← q)
 
 pub stops : (s : List ℕ) → wrong_line s ≡ wrong_at s (copy_end s (length s))
 unfolding wrong_line copy_end

@@ -9,7 +9,7 @@ use lib.ListN.{length, length-map, get_or-map, get_or-eq_default}
 use borrow.Author.Tests.{ltb-true, ltb-false, lt-leb, eq-eqb, ne_eqb}
 use Rattle.integer.proofs.BoolLaws.{by_cases, either}
 use Rattle.event.specs.declared.AlertEntry.{AlertEntry}
-use Rattle.event.specs.declared.Answer.TheVariants.{Done}
+use Rattle.std.specs.Prelude.{Ok}
 use Rattle.rules.specs.Replies.{accepts}
 use Rattle.rules.specs.AlertRow.{twice_in, asserts_in, lowest_asserting, row_answer, let_go_at, row_after}
 use Rattle.rules.specs.PageAlertRow.{PageAlertRow, entry_at, address_at, AllInside, AllDifferent, Lowest, row_number, row_data}
@@ -44,7 +44,7 @@ module _ (row : List AlertEntry) where
     lowest_here : lowest_asserting row ≡ address_at i row
     lowest_here = lowest_is row i l (inside i l).1 low
 
-    answered : row_answer row ≡ Done (address_at i row)
+    answered : row_answer row ≡ Ok (address_at i row)
     unfolding row_answer
     answered = rw (all_inside row inside, one_asserts row i l low.0, all_different row different, lowest_here)
 

@@ -86,7 +86,8 @@ module _ (f : FanId) (e : Event) (d : Taken) where
   unfolding alarm_bit
   alarm_set off on = rw (on, off) (by_cases (restarts e) (λ r. rw r) (λ r. rw r))
 
-  alarm_kept : is_kind kind.Power e ≡ false → is_kind kind.Write e ≡ false → is_kind kind.Read e ≡ false → at_alarm f d ≡ true → alarm_bit f (e ∷ d) ≡ alarm_bit f d
+  alarm_kept : is_kind kind.Power e ≡ false → is_kind kind.Write e ≡ false → is_kind kind.Read e ≡ false → at_alarm f d ≡ true →
+      alarm_bit f (e ∷ d) ≡ alarm_bit f d
   unfolding alarm_bit
   alarm_kept no_power no_write no_read on = rw (no_power, no_write, no_read, on, and-false)
 
@@ -134,7 +135,8 @@ module _ (h : History) where
   duty_now f = duty_is h d refl f
 
   turned_is :
-      (f g : FanId) → Accepted (turned g) h → output_bit f h ≡ true → forced h ≡ false → 0 < aim f h → clocks_left f (turned g ∷ h) ≡ 0 → filter_bit f h ≡ true →
+      (f g : FanId) → Accepted (turned g) h → output_bit f h ≡ true → forced h ≡ false → 0 < aim f h → clocks_left f (turned g ∷ h) ≡ 0 →
+      filter_bit f h ≡ true →
       duty_out f (turned g ∷ h) ≡ cond (periods f (turned g)) (nearer (rate_figure h) (aim f h) (duty_out f h)) (duty_out f h)
   turned_is f g go on free up z p =
       let q = accepted_is (turned g) h go in

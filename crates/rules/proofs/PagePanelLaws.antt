@@ -14,8 +14,8 @@ use Rattle.part.specs.declared.ChannelId.TheVariants.{Local, Remote1, Remote2}
 use Rattle.part.specs.declared.FanId.{FanId}
 use Rattle.part.specs.declared.FanId.TheVariants.{One, Two}
 use Rattle.event.specs.declared.Panel as panel
-use Rattle.event.specs.declared.Paneled.{Paneled}
-use Rattle.event.specs.declared.Paneled.TheVariants.{Panel, Refused}
+use Rattle.event.specs.declared.Refusal.{Refusal}
+use Rattle.std.specs.Prelude.{Result, Ok, Err}
 use Rattle.rules.specs.Registers.{speed_at, characteristics_at, exists_at}
 use Rattle.rules.specs.Stored.{powered, stored_at}
 use Rattle.rules.specs.Replies.{History, taken}
@@ -36,11 +36,11 @@ use Rattle.rules.proofs.NearestLaws.{nearest_quotient}
 
 -- ---- the panel that is told
 
-figures_in : Paneled → panel.Panel
-figures_in (Panel p) = p
-figures_in (Refused r) = figures []
+figures_in : Result panel.Panel Refusal → panel.Panel
+figures_in (Ok p) = p
+figures_in (Err r) = figures []
 
-module _ (h : History) {p : panel.Panel} (told : paneled h ≡ Panel p) where
+module _ (h : History) {p : panel.Panel} (told : paneled h ≡ Ok p) where
   figures_are : p ≡ figures (taken h)
   unfolding figures_in panel_for
   figures_are =
@@ -61,14 +61,14 @@ module _ (h : History) {p : panel.Panel} (told : paneled h ≡ Panel p) where
 
 -- ---- temperatures
 
-module _ (h : History) (c : ChannelId) {p : panel.Panel} (told : paneled h ≡ Panel p) where
+module _ (h : History) (c : ChannelId) {p : panel.Panel} (told : paneled h ≡ Ok p) where
   held : Exactly (degrees_on c p) (temperature c (taken h)) 8
   held = rw (degrees_are h told c) (exact (temperature c (taken h)) (in_bytes c (taken h)))
 
   degrees_back : Exactly (degrees_on c p) (eighths_by c (λ a. register a h)) 8
   degrees_back = rw (← reads_back (took h) c) held
 
-sampled_held : (h : History) (c : ChannelId) (t : ℤ) {p : panel.Panel} → Accepted (sampled c t) h → paneled (sampled c t ∷ h) ≡ Panel p →
+sampled_held : (h : History) (c : ChannelId) (t : ℤ) {p : panel.Panel} → Accepted (sampled c t) h → paneled (sampled c t ∷ h) ≡ Ok p →
     Exactly (degrees_on c p) (reading_figure c t h) 8
 sampled_held h c t go told =
     let q : temperature c (taken (sampled c t ∷ h)) ≡ reading_figure c t h =

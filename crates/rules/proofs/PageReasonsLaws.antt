@@ -14,8 +14,8 @@ use Rattle.part.specs.declared.FanId.TheVariants.{One, Two}
 use Rattle.event.specs.declared.Reason.{Reason}
 use Rattle.event.specs.declared.Reason.TheVariants as reason
 use Rattle.event.specs.declared.Refusal.TheVariants.{NoPower}
-use Rattle.event.specs.declared.Why.{Why}
-use Rattle.event.specs.declared.Why.TheVariants.{Because, Refused}
+use Rattle.event.specs.declared.Refusal.{Refusal}
+use Rattle.std.specs.Prelude.{Result, Ok, Err}
 use Rattle.rules.specs.Stored.{powered}
 use Rattle.rules.specs.Replies.{History, taken}
 use Rattle.rules.specs.Targets.{target, overridden}
@@ -85,16 +85,16 @@ module _ (h : History) (f : FanId) where
 
 -- ---- what is told
 
-told_of_lem : (h : History) (f : FanId) → powered (taken h) ≡ true → told_of f h ≡ Because (reason_for f (taken h))
+told_of_lem : (h : History) (f : FanId) → powered (taken h) ≡ true → told_of f h ≡ Ok (reason_for f (taken h))
 unfolding why_for
 told_of_lem h One on = rw on
 told_of_lem h Two on = rw on
 
-reason_in : Why → Reason
-reason_in (Because r) = r
-reason_in (Refused a) = reason.Disabled
+reason_in : Result Reason Refusal → Reason
+reason_in (Ok r) = r
+reason_in (Err a) = reason.Disabled
 
-module _ (h : History) (f : FanId) {r : Reason} (told : told_of f h ≡ Because r) where
+module _ (h : History) (f : FanId) {r : Reason} (told : told_of f h ≡ Ok r) where
   told_is : r ≡ reason_for f (taken h)
   unfolding reason_in
   told_is =
@@ -102,7 +102,7 @@ module _ (h : History) (f : FanId) {r : Reason} (told : told_of f h ≡ Because 
       (λ on. ap reason_in (sym told ∙ told_of_lem h f on))
       (λ off. let z : 1 ≡ 0 = ap why_number (sym (none off) ∙ told) in absurd (omega (arith, z)))
     where
-      none : powered (taken h) ≡ false → told_of f h ≡ Refused NoPower
+      none : powered (taken h) ≡ false → told_of f h ≡ Err NoPower
       none off = (unfold why_for in rw off)
 
 no_fan_lem : (h : History) (n : ℤ) → powered (taken h) ≡ true → one_of (1 ∷ 2 ∷ []) n ≡ false → why_number (why_for n (taken h)) ≡ 3

@@ -6,8 +6,8 @@ use lib.IntN.{ℤ, pos}
 use Rattle.integer.proofs.BoolLaws.{by_cases}
 use Rattle.event.specs.Kinds.{is_kind}
 use Rattle.event.specs.Answers.{data_of}
-use Rattle.event.specs.declared.Answer.{Answer}
-use Rattle.event.specs.declared.Answer.TheVariants.{Done, Refused}
+use Rattle.event.specs.declared.Refusal.{Refusal}
+use Rattle.std.specs.Prelude.{Result, Ok, Err}
 use Rattle.event.specs.declared.Event.{Event}
 use Rattle.event.specs.declared.Kind.TheVariants as kind
 use Rattle.rules.specs.Stored.{own_address, pointer, pin_low}
@@ -25,9 +25,9 @@ use Rattle.rules.proofs.WriteLaws.{others, written}
 use Rattle.rules.proofs.ImageLaws.{image_answer_lem, image_byte_lem, image_rest_lem, image_length_lem, image_kept_lem}
 
 -- a refusal has no data
-pub no_data : (r : Answer) → accepts r ≡ false → data_of r ≡ 0
-no_data (Done n) q = absurd (true≢false q)
-no_data (Refused r) q = refl
+pub no_data : (r : Result ℕ Refusal) → accepts r ≡ false → data_of r ≡ 0
+no_data (Ok n) q = absurd (true≢false q)
+no_data (Err r) q = refl
 
 module _ (h : History) where
   refusal : (e : Event) → accepted e h ≡ false → data_out e h ≡ 0

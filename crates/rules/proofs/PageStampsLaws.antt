@@ -7,12 +7,14 @@ use native.Mathlib.Omega.{arith}
 use lib.IntN.{ℤ}
 use Rattle.integer.proofs.BoolLaws.{by_cases}
 use Rattle.part.specs.declared.FanId.{FanId}
-use Rattle.event.specs.declared.Aged.{Aged}
-use Rattle.event.specs.declared.Aged.TheVariants.{Clocks, Refused}
+use Rattle.event.specs.declared.Refusal.{Refusal}
+use Rattle.std.specs.Prelude.{Result, Ok, Err}
 use Rattle.event.specs.declared.Event.{Event}
-use Rattle.rules.specs.Stored.{powered}
+use Rattle.rules.specs.Events.{is_number}
+use Rattle.rules.specs.Reasons.{why_for}
+use Rattle.rules.specs.Stored.{Taken, powered}
 use Rattle.rules.specs.Replies.{History, taken, accepted}
-use Rattle.rules.specs.Stamps.{clocks, stamp, age_for, age_number, age_clocks}
+use Rattle.rules.specs.Stamps.{clocks, stamp, age_for, age_number, age_clocks, explanation_for, reason_told, age_told}
 use Rattle.rules.specs.PageWords.{power, Accepted, duty_out}
 use Rattle.rules.specs.PageReplies.{one_of}
 use Rattle.rules.specs.PageTemperatures.{reset}
@@ -27,9 +29,19 @@ unfolding age_for
 no_fan_lem h n on y = rw (on, (neither_fan n y).0, (neither_fan n y).1)
 
 -- where a refusal is told there is no age beside it
-none_beside : (a : Aged) → 0 < age_number a → age_clocks a ≡ 0
-none_beside (Clocks n) up = absurd (omega arith)
-none_beside (Refused r) up = refl
+none_beside : (a : Result ℕ Refusal) → 0 < age_number a → age_clocks a ≡ 0
+none_beside (Ok n) up = absurd (omega arith)
+none_beside (Err r) up = refl
+
+-- and a reason is told where an age is
+pub beside : (n : ℤ) (d : Taken) → (reason_told (explanation_for n d) ≡ why_for n d) × (age_told (explanation_for n d) ≡ age_clocks (age_for n d))
+unfolding why_for age_for
+beside n d =
+    by_cases (powered d)
+    (λ on. by_cases (is_number n 1)
+    (λ y. rw (on, y) (refl, refl))
+    (λ no. by_cases (is_number n 2) (λ y. rw (on, no, y) (refl, refl)) (λ m. rw (on, no, m) (refl, refl))))
+    (λ off. rw off (refl, refl))
 
 module _ (h : History) where
   -- power begins the count at 0
@@ -63,9 +75,9 @@ page_stamps h =
       no_power = λ n off. (unfold age_for in rw off);
       no_fan = no_fan_lem h;
       given = λ f on. ap age_number (told_of_lem h f on);
-      reason = λ n. refl;
-      beside = λ n clocks is. ap age_clocks is;
-      untold = λ n up. none_beside (age_for n (taken h)) up;
+      reason = λ n. (beside n (taken h)).0;
+      beside = λ n clocks is. (beside n (taken h)).1 ∙ ap age_clocks is;
+      untold = λ n up. (beside n (taken h)).1 ∙ none_beside (age_for n (taken h)) up;
       stamp = λ w x y t go u. (unfold stamp in rw (counts_on t (power w x y ∷ h) u, at_power_lem h w x y go) (omega arith));
       unpowered = before h;
       started = started h;

@@ -133,7 +133,8 @@ module _ (h : History) where
         let q2 = neither (eqb a 0x02) _ q in
         let q3 = neither (eqb a 0x03) _ q2.1 in
         rw then
-        (register_kept (count g n) d (kind_of_lem kind.Power) (kind_of_lem kind.Write) a (rw (q2.0, q3.0)) (elsewhere g n a q3.1) (λ c. rw (kind_of_lem kind.Sample)))
+        (register_kept (count g n) d (kind_of_lem kind.Power) (kind_of_lem kind.Write) a (rw (q2.0, q3.0)) (elsewhere g n a q3.1)
+        (λ c. rw (kind_of_lem kind.Sample)))
 
     left_stays : failed f (count g n) d ≡ false → clocks_left f (count g n ∷ h) ≡ clocks_left f h
     left_stays fine = left_is (count g n ∷ h) (count g n ∷ d) then f ∙ tach.left_kept (count g n) d (is_tach g n) f fine

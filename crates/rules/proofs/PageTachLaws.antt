@@ -147,7 +147,8 @@ module _ (h : History) where
         )
 
 fault_kept :
-    (f : FanId) (e : Event) (d : Taken) → is_kind kind.Tach e ≡ false → is_kind kind.Read e ≡ false → is_kind kind.Power e ≡ false → is_kind kind.Write e ≡ false →
+    (f : FanId) (e : Event) (d : Taken) → is_kind kind.Tach e ≡ false → is_kind kind.Read e ≡ false → is_kind kind.Power e ≡ false →
+    is_kind kind.Write e ≡ false →
     fault_bit f (e ∷ d) ≡ fault_bit f d
 unfolding fault_bit failed
 fault_kept f e d no-tach no_read no_power no_write = rw (no-tach, no_read, no_power, no_write)

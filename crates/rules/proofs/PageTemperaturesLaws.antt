@@ -74,7 +74,8 @@ module _ (d : Taken) where
 
 -- an event that is none of the channel's leaves its status bits
 bits_kept :
-    (e : Event) (d : Taken) → is_kind kind.Power e ≡ false → is_kind kind.Write e ≡ false → is_kind kind.Read e ≡ false → (c : ChannelId) → samples c e ≡ false →
+    (e : Event) (d : Taken) → is_kind kind.Power e ≡ false → is_kind kind.Write e ≡ false → is_kind kind.Read e ≡ false → (c : ChannelId) →
+    samples c e ≡ false →
     (bit_of (value (by_channel 0x02 0x02 0x03 c) (e ∷ d)) (by_channel 6 2 2 c) ≡ bit_of (value (by_channel 0x02 0x02 0x03 c) d) (by_channel 6 2 2 c))
     × (bit_of (value (by_channel 0x02 0x02 0x03 c) (e ∷ d)) (by_channel 7 3 3 c) ≡ bit_of (value (by_channel 0x02 0x02 0x03 c) d) (by_channel 7 3 3 c))
     × (bit_of (value (by_channel 0x03 0x02 0x03 c) (e ∷ d)) (by_channel 6 4 4 c) ≡ bit_of (value (by_channel 0x03 0x02 0x03 c) d) (by_channel 6 4 4 c))

@@ -126,7 +126,8 @@ module _ (d : Taken) (w : ℤ) where
 
   -- the diode errors, 0 or 1, are all that the status bytes hold
   power_status : (a b : ℕ) → a ≤ 1 → b ≤ 1 → (f : FanId) → status f (power w (pos a) (pos b) ∷ d) ≡ 32 * by_fan a b f
-  unfolding status packed high_bit low_bit therm_bit diode_error pulled_bit fault_bit alarm_bit at_alarm failed overridden pin_low therm_asserted stored_at reset_at latch
+  unfolding status packed high_bit low_bit therm_bit diode_error pulled_bit fault_bit alarm_bit at_alarm failed overridden pin_low therm_asserted stored_at
+      reset_at latch
   power_status zero b p q One = refl
   power_status (suc zero) b p q One = refl
   power_status (suc (suc a)) b p q One = absurd (omega arith)

@@ -50,7 +50,8 @@ pick_of [] xs last = last
 pick_of (b ∷ bs) [] last = last
 pick_of (b ∷ bs) (x ∷ xs) last = cond b x (pick_of bs xs last)
 
-pub picked : {A : Type 0} (bs : List Bool) (xs : List A) (last : A) (i : ℕ) → length bs ≡ length xs → first_of bs ≡ suc i → pick_of bs xs last ≡ get_or xs i last
+pub picked : {A : Type 0} (bs : List Bool) (xs : List A) (last : A) (i : ℕ) → length bs ≡ length xs → first_of bs ≡ suc i →
+    pick_of bs xs last ≡ get_or xs i last
 unfolding first_of pick_of
 picked [] [] last i l e = refl
 picked [] (x ∷ xs) last i l e = absurd (omega (arith, l))

@@ -8,8 +8,7 @@ use borrow.Author.Tests.{eqb-true}
 use Rattle.integer.proofs.BoolLaws.{by_cases}
 use Rattle.part.specs.declared.FanId.TheVariants.{One, Two}
 use Rattle.event.specs.Answers.{number_of, refusal_number}
-use Rattle.event.specs.declared.Answer.{Answer}
-use Rattle.event.specs.declared.Answer.TheVariants.{Done, Refused}
+use Rattle.std.specs.Prelude.{Result, Ok, Err}
 use Rattle.event.specs.declared.Refusal.{Refusal}
 use Rattle.event.specs.declared.Event.{Event}
 use Rattle.rules.specs.Registers.{exists_at}
@@ -26,7 +25,7 @@ use Rattle.rules.proofs.ReplyWords.{same_is, zero_is, within_is, register_is, re
 -- ---- the number of a reply
 
 -- the data that a read fills in leaves it
-answered : (r : Answer) (n : ℕ) → number_of (cond (accepts r) (Done n) r) ≡ number_of r
+answered : (r : Result ℕ Refusal) (n : ℕ) → number_of (cond (accepts r) (Ok n) r) ≡ number_of r
 answered r n = by_cases (accepts r) (λ q. rw q (sym (eqb-true (number_of r) 0 q))) (λ q. rw q)
 
 pub number_is : (e : Event) (h : History) → reply_number e h ≡ number_of (reply_to e (taken h))
@@ -34,7 +33,7 @@ unfolding answer
 number_is e h = answered (reply_to e (taken h)) _
 
 -- it is that of the first refusal whose test holds
-pushed : (t : Bool) (r : Refusal) (x : Answer) → number_of (cond t (Refused r) x) ≡ cond t (refusal_number r) (number_of x)
+pushed : (t : Bool) (r : Refusal) (x : Result ℕ Refusal) → number_of (cond t (Err r) x) ≡ cond t (refusal_number r) (number_of x)
 pushed true r x = refl
 pushed false r x = refl
 
@@ -123,7 +122,8 @@ module _ (h : History) (w a v : ℤ) where
   unfolding reply_to lowest ranges_of
   clocks = number_is (clock w a v) h ∙ simp (pushed, and-true) (rw (zero_is w, zero_is a, zero_is v))
 
-  pub periods : reply_number (period w a v) h ≡ first (not (power_on h)) 1 (first (not (between (pos 1) (pos 2) w)) 3 (first (not (is_zero a && is_zero v)) 6 0))
+  pub periods : reply_number (period w a v) h ≡ first (not (power_on h)) 1
+      (first (not (between (pos 1) (pos 2) w)) 3 (first (not (is_zero a && is_zero v)) 6 0))
   unfolding reply_to lowest ranges_of
   periods =
       number_is (period w a v) h

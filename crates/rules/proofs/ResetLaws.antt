@@ -39,7 +39,8 @@ module _ (d : Taken) (w : ℤ) (b : ℕ) (seven : bit_of b 7 ≡ true) where
 
     module _ (x y own : ℕ) (p : diode_error Remote1 d ≡ eqb x 1) (q : diode_error Remote2 d ≡ eqb y 1) where
       status_alike : (f : FanId) → status f (reset w b ∷ d) ≡ status f (power (pos own) (pos x) (pos y) ∷ d)
-      unfolding status therm_asserted stored_at reset_at latch high_bit low_bit therm_bit diode_error pulled_bit fault_bit alarm_bit at_alarm failed overridden pin_low
+      unfolding status therm_asserted stored_at reset_at latch high_bit low_bit therm_bit diode_error pulled_bit fault_bit alarm_bit at_alarm failed
+          overridden pin_low
       status_alike One = rw (seven, high, p)
       status_alike Two = rw (seven, high, q)
 

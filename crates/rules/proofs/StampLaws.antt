@@ -10,7 +10,7 @@ use Rattle.integer.proofs.BoolLaws.{by_cases}
 use Rattle.part.specs.declared.FanId.{FanId}
 use Rattle.part.specs.declared.FanId.TheVariants.{One, Two}
 use Rattle.event.specs.Kinds.{is_kind}
-use Rattle.event.specs.declared.Aged.TheVariants.{Clocks}
+use Rattle.std.specs.Prelude.{Ok}
 use Rattle.event.specs.declared.Event.{Event}
 use Rattle.event.specs.declared.Kind.TheVariants as kind
 use Rattle.rules.specs.Events.{restarts}
@@ -87,20 +87,20 @@ no_power_in_lem f (e ∷ t) h q = (no_power_in_lem f t h q.0, λ go. (q.1 go).no
 pub apart : (a n : ℕ) → ((a + n) % 65536 + (65536 - a % 65536)) % 65536 ≡ n % 65536
 apart a n = omega arith
 
-pub told_of_lem : (h : History) (f : FanId) → powered (taken h) ≡ true → aged_fan f h ≡ Clocks (age f (taken h))
+pub told_of_lem : (h : History) (f : FanId) → powered (taken h) ≡ true → aged_fan f h ≡ Ok (age f (taken h))
 unfolding age_for
 told_of_lem h One on = rw on
 told_of_lem h Two on = rw on
 
 module _ (f : FanId) (h : History) (on : powered (taken h) ≡ true) (set : fan_stamp f (taken h) ≡ stamp (taken h)) where
-  since_modulo : (t : List Event) → NoStarts f t h → aged_fan f (t ++ h) ≡ Clocks (tenths_in t h % 65536)
+  since_modulo : (t : List Event) → NoStarts f t h → aged_fan f (t ++ h) ≡ Ok (tenths_in t h % 65536)
   unfolding age stamp
   since_modulo t q =
       told_of_lem (t ++ h) f (stays_on t h on)
-      ∙ ap Clocks (rw (stays_set f t h q, set, counts_on t h (no_power_in_lem f t h q)) (apart (clocks (taken h)) (tenths_in t h)))
+      ∙ ap Ok (rw (stays_set f t h q, set, counts_on t h (no_power_in_lem f t h q)) (apart (clocks (taken h)) (tenths_in t h)))
 
-  since_true : (t : List Event) → NoStarts f t h → tenths_in t h < 65536 → aged_fan f (t ++ h) ≡ Clocks (tenths_in t h)
-  since_true t q l = since_modulo t q ∙ ap Clocks (omega arith)
+  since_true : (t : List Event) → NoStarts f t h → tenths_in t h < 65536 → aged_fan f (t ++ h) ≡ Ok (tenths_in t h)
+  since_true t q l = since_modulo t q ∙ ap Ok (omega arith)
 
   pub age_since : AgeSince f h
   age_since = record { modulo = since_modulo; true_count = since_true }

@@ -19,7 +19,8 @@ use Rattle.rules.proofs.CalmLaws.{byte_same}
 use Rattle.rules.proofs.StatusLaws.{high_off, low_off, therm_off, stays}
 
 -- an event that is no power, write or read
-module _ (e : Event) (d : Taken) (no_power : is_kind kind.Power e ≡ false) (no_write : is_kind kind.Write e ≡ false) (no_read : is_kind kind.Read e ≡ false) where
+module _ (e : Event) (d : Taken) (no_power : is_kind kind.Power e ≡ false) (no_write : is_kind kind.Write e ≡ false)
+    (no_read : is_kind kind.Read e ≡ false) where
   pub on_kept : (c : ChannelId) → channel_on c (e ∷ d) ≡ channel_on c d
   on_kept c = rw (byte_same e d no_power no_write config2 refl)
 

@@ -6,8 +6,7 @@ use mathlib.Core.List.{[], ◌∷◌}
 use native.Mathlib.Omega.{arith}
 use Rattle.integer.proofs.BoolLaws.{by_cases}
 use Rattle.event.specs.Kinds.{is_kind}
-use Rattle.event.specs.declared.Answer.{Answer}
-use Rattle.event.specs.declared.Answer.TheVariants.{Refused}
+use Rattle.std.specs.Prelude.{Result, Err}
 use Rattle.event.specs.declared.Refusal.{Refusal}
 use Rattle.event.specs.declared.Refusal.TheVariants.{NoPower, OtherAddress, NoSuchPart, NoSuchRegister, ReadOnly, OutOfRange, BadRangeCode, OddLocal}
 use Rattle.event.specs.declared.Event.{Event}
@@ -19,7 +18,7 @@ use Rattle.rules.specs.Replies.{taken, accepted}
 use Rattle.rules.proofs.EventLaws.{up_to, who_lies}
 
 -- a test that refuses did not apply
-passes : (t : Bool) (r : Refusal) (b : Answer) → accepts (Refused r) ≡ false → accepts (cond t (Refused r) b) ≡ true → (t ≡ false) × (accepts b ≡ true)
+passes : (t : Bool) (r : Refusal) (b : Result ℕ Refusal) → accepts (Err r) ≡ false → accepts (cond t (Err r) b) ≡ true → (t ≡ false) × (accepts b ≡ true)
 passes true r b n y = absurd (true≢false (sym y ∙ n))
 passes false r b n y = (refl, y)
 

@@ -31,7 +31,8 @@ module _ (a : ℕ) (exists : exists_at a ≡ true) (free : read_only_at a ≡ fa
   unfolding every table read_only_at exists_at mask_at
   stored_only =
       not-true _
-      (rw free at (at_row (λ n. read_only_at n || not (eqb n 0x02 || (eqb n 0x03 || (eqb n 0x06 || (eqb n 0x0A || (eqb n 0x0B || eqb n 0x0C)))))) refl a exists))
+      (rw free at (at_row (λ n. read_only_at n || not (eqb n 0x02 || (eqb n 0x03 || (eqb n 0x06 || (eqb n 0x0A || (eqb n 0x0B || eqb n 0x0C)))))) refl a
+      exists))
 
   shows_stored : (d : Taken) → value a d ≡ stored_at a d
   unfolding value byte_at

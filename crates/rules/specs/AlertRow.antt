@@ -1,9 +1,8 @@
 -- T-02 of document 02, the search at the alert response address, 0x0C: what a row of alert entries, one for each keeper on the line, is answered,
 -- and what it holds then.
-use Rattle.std.specs.Prelude.{ℕ, min, Bool, false, cond, not, ◌&&◌, ◌||◌, List, [], ◌∷◌, map, leb, eqb}
+use Rattle.std.specs.Prelude.{ℕ, min, Bool, false, cond, not, ◌&&◌, ◌||◌, List, [], ◌∷◌, map, leb, eqb, Result, Ok, Err}
 use Rattle.event.specs.declared.AlertEntry.{AlertEntry}
-use Rattle.event.specs.declared.Answer.{Answer}
-use Rattle.event.specs.declared.Answer.TheVariants.{Done, Refused}
+use Rattle.event.specs.declared.Refusal.{Refusal}
 use Rattle.event.specs.declared.Refusal.TheVariants.{OutOfRange, NoAlert}
 use Rattle.rules.specs.Replies.{accepts}
 
@@ -31,11 +30,11 @@ lowest_asserting [] = 255
 lowest_asserting (e ∷ row) = cond e.asserting (min e.address (lowest_asserting row)) (lowest_asserting row)
 
 -- 6, then 12, else done with the lowest address that asserts
-unfoldable pub row_answer : List AlertEntry → Answer
+unfoldable pub row_answer : List AlertEntry → Result ℕ Refusal
 row_answer row =
-    cond (outside_in row) (Refused OutOfRange)
-    (cond (not (asserts_in row) || twice_in row) (Refused NoAlert)
-    (Done (lowest_asserting row)))
+    cond (outside_in row) (Err OutOfRange)
+    (cond (not (asserts_in row) || twice_in row) (Err NoAlert)
+    (Ok (lowest_asserting row)))
 
 -- that entry's line is let go; the others stay, and a refused row stays whole
 abbrev pub let_go_at : (address : ℕ) → AlertEntry → AlertEntry

@@ -1,12 +1,11 @@
 -- The page, T-05 of document 02: a diode in error, of registers, outputs and events with their numbers.
-use Rattle.std.specs.Prelude.{ℕ, ◌<◌, ◌≡◌, Bool, true, false, cond, ◌&&◌, [], ◌∷◌, eqb, ℤ, pos}
+use Rattle.std.specs.Prelude.{ℕ, ◌<◌, ◌≡◌, Bool, true, false, cond, ◌&&◌, [], ◌∷◌, eqb, ℤ, pos, Ok}
 use Rattle.part.specs.declared.ChannelId.{ChannelId}
 use Rattle.part.specs.declared.FanId.{FanId}
 use Rattle.event.specs.declared.Event.{Event}
 use Rattle.event.specs.declared.Event.TheVariants as event
 use Rattle.event.specs.declared.Reason.{Reason}
 use Rattle.event.specs.declared.Reason.TheVariants as reason
-use Rattle.event.specs.declared.Why.TheVariants.{Because}
 use Rattle.rules.specs.Replies.{History, taken, accepted}
 use Rattle.rules.specs.PageWords.{sampled, reported, Accepted, register, bit, duty_out, by_channel, output_bit, filter_bit, error_status, is_assigned}
 use Rattle.rules.specs.PageReplies.{same}
@@ -64,4 +63,4 @@ pub record PageDiodes (h : History) : Type 0 where
   pub named :
       (f : FanId) (c : ChannelId) (r : Reason) → error_status c h ≡ true → is_assigned f c h ≡ true →
       ((other : ChannelId) → below other c → is_assigned f other h ≡ true → demanded f other h < 240) →
-      told_of f h ≡ Because r → in_order r ≡ 8 → r ≡ reason.Demand c
+      told_of f h ≡ Ok r → in_order r ≡ 8 → r ≡ reason.Demand c

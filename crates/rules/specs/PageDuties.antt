@@ -1,5 +1,6 @@
 -- The page, "Duty in slots" and "Tach counts", of registers, outputs and events with their numbers.
-use Rattle.std.specs.Prelude.{ℕ, suc, ◌+◌, ◌-◌, ◌*◌, ◌/◌, ◌<◌, ◌≤◌, min, ◌≡◌, Bool, true, false, cond, ◌&&◌, ◌||◌, ◌∷◌, eqb, ltb, leb, ℤ, pos, negsuc, ◌-ℤ◌, ◌*ℤ◌}
+use Rattle.std.specs.Prelude.{ℕ, suc, ◌+◌, ◌-◌, ◌*◌, ◌/◌, ◌<◌, ◌≤◌, min, ◌≡◌, Bool, true, false, cond, ◌&&◌, ◌||◌, ◌∷◌, eqb, ltb, leb, ℤ, pos, negsuc, ◌-ℤ◌}
+use Rattle.std.specs.Prelude.{◌*ℤ◌}
 use Rattle.std.specs.Int.Signed.{lt_z}
 use Rattle.integer.specs.Bits.{bit_of, flag_of}
 use Rattle.part.specs.declared.ChannelId.{ChannelId}
@@ -148,7 +149,8 @@ pub record PageTach (h : History) : Type 0 where
   -- "Any other judged count ends the run"
   pub success :
       (f : FanId) (n : ℕ) → Accepted (counted f (pos n)) h → judged_after f h ≡ true → n ≤ register (by_fan 0x10 0x11 f) h →
-      (failure_run f (counted f (pos n) ∷ h) ≡ 0) × (fault_status f (counted f (pos n) ∷ h) ≡ fault_status f h) × (duty_out f (counted f (pos n) ∷ h) ≡ duty_out f h)
+      (failure_run f (counted f (pos n) ∷ h) ≡ 0) × (fault_status f (counted f (pos n) ∷ h) ≡ fault_status f h)
+      × (duty_out f (counted f (pos n) ∷ h) ≡ duty_out f h)
   -- "An unjudged count changes the register only."
   pub unjudged :
       (f : FanId) (n a : ℕ) → Accepted (counted f (pos n)) h → judged_after f h ≡ false →

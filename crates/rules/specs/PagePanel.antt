@@ -1,13 +1,12 @@
 -- The page, T-06 of document 02: the panel, of registers and of events with their numbers.
-use Rattle.std.specs.Prelude.{ℕ, ◌*◌, ◌/◌, ◌<◌, ◌≡◌, true, false, [], ◌∷◌, ℤ, get_or, Float}
+use Rattle.std.specs.Prelude.{ℕ, ◌*◌, ◌/◌, ◌<◌, ◌≡◌, true, false, [], ◌∷◌, ℤ, get_or, Float, Result, Ok}
 use Rattle.part.specs.declared.ChannelId.{ChannelId}
 use Rattle.part.specs.declared.FanId.{FanId}
 use Rattle.event.specs.declared.Event.{Event}
 use Rattle.event.specs.declared.FanSpeed.{FanSpeed}
 use Rattle.event.specs.declared.FanSpeed.TheVariants.{NotMeasured, Stalled, Speed}
 use Rattle.event.specs.declared.Panel as panel
-use Rattle.event.specs.declared.Paneled.{Paneled}
-use Rattle.event.specs.declared.Paneled.TheVariants.{Panel}
+use Rattle.event.specs.declared.Refusal.{Refusal}
 use Rattle.rules.specs.Replies.{History, taken, accepted}
 use Rattle.rules.specs.Panels.{panel_for, panel_number}
 use Rattle.rules.specs.Floats.{Exactly, Nearest}
@@ -16,7 +15,7 @@ use Rattle.rules.specs.PageReplies.{power_on}
 use Rattle.rules.specs.PageReasons.{eighths_by}
 
 -- what is told after a list
-abbrev pub paneled : History → Paneled
+abbrev pub paneled : History → Result panel.Panel Refusal
 paneled h = panel_for (taken h)
 
 -- the temperature of a channel, the speed of a fan
@@ -45,16 +44,16 @@ pub record PagePanel (h : History) : Type 0 where
   pub given : power_on h ≡ true → panel_number (paneled h) ≡ 0
   -- "A temperature is the reading over 8, exactly": the reading that the registers give back, and that a sample of t makes (T-01)
   pub temperature :
-      (c : ChannelId) (p : panel.Panel) → paneled h ≡ Panel p → Exactly (degrees_on c p) (eighths_by c (λ a. register a h)) 8
+      (c : ChannelId) (p : panel.Panel) → paneled h ≡ Ok p → Exactly (degrees_on c p) (eighths_by c (λ a. register a h)) 8
   pub sample :
-      (c : ChannelId) (t : ℤ) (p : panel.Panel) → Accepted (sampled c t) h → paneled (sampled c t ∷ h) ≡ Panel p →
+      (c : ChannelId) (t : ℤ) (p : panel.Panel) → Accepted (sampled c t) h → paneled (sampled c t ∷ h) ≡ Ok p →
       Exactly (degrees_on c p) (reading_figure c t h) 8
   -- "not measured (count 0), stalled (count 255), or a speed"
-  pub not_measured : (f : FanId) (p : panel.Panel) → paneled h ≡ Panel p → count_figure f h ≡ 0 → speed_on f p ≡ NotMeasured
-  pub stalled : (f : FanId) (p : panel.Panel) → paneled h ≡ Panel p → count_figure f h ≡ 255 → speed_on f p ≡ Stalled
+  pub not_measured : (f : FanId) (p : panel.Panel) → paneled h ≡ Ok p → count_figure f h ≡ 0 → speed_on f p ≡ NotMeasured
+  pub stalled : (f : FanId) (p : panel.Panel) → paneled h ≡ Ok p → count_figure f h ≡ 255 → speed_on f p ≡ Stalled
   -- "A speed is 675,000 over the product of count and the fan's range divisor (1, 2, 4, 8), as one rounded division"
   pub speed :
-      (f : FanId) (p : panel.Panel) → paneled h ≡ Panel p → 0 < count_figure f h → count_figure f h < 255 →
+      (f : FanId) (p : panel.Panel) → paneled h ≡ Ok p → 0 < count_figure f h → count_figure f h < 255 →
       Turns (count_figure f h * divisor_figure f h) (speed_on f p)
   -- a refused event changes no panel
   pub refused : (e : Event) → accepted e h ≡ false → paneled (e ∷ h) ≡ paneled h

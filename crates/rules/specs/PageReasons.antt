@@ -1,13 +1,12 @@
 -- The page, T-03 of document 02: the reason that is told for a fan's duty, of registers, outputs and the fan's number.
-use Rattle.std.specs.Prelude.{ℕ, ◌+◌, ◌-◌, ◌*◌, ◌/◌, ◌%◌, ◌<◌, ◌≤◌, min, ◌≡◌, Bool, true, false, cond, [], ◌∷◌, ℤ, pos, ◌+ℤ◌, ◌-ℤ◌, ◌*ℤ◌}
+use Rattle.std.specs.Prelude.{ℕ, ◌+◌, ◌-◌, ◌*◌, ◌/◌, ◌%◌, ◌<◌, ◌≤◌, min, ◌≡◌, Bool, true, false, cond, [], ◌∷◌, ℤ, pos, ◌+ℤ◌, ◌-ℤ◌, ◌*ℤ◌, Result, Ok}
 use Rattle.integer.specs.Bits.{bit_of}
 use Rattle.part.specs.declared.ChannelId.{ChannelId}
 use Rattle.part.specs.declared.FanId.{FanId}
 use Rattle.event.specs.declared.Event.{Event}
 use Rattle.event.specs.declared.Reason.{Reason}
 use Rattle.event.specs.declared.Reason.TheVariants as reason
-use Rattle.event.specs.declared.Why.{Why}
-use Rattle.event.specs.declared.Why.TheVariants.{Because}
+use Rattle.event.specs.declared.Refusal.{Refusal}
 use Rattle.rules.specs.Replies.{History, taken, accepted}
 use Rattle.rules.specs.Temperatures.{degrees}
 use Rattle.rules.specs.Reasons.{reason_number, why_number, why_for}
@@ -17,10 +16,10 @@ use Rattle.rules.specs.PageTemperatures.{latched, pulled}
 use Rattle.rules.specs.PageDuties.{aim, clocks_left, excess, demanded}
 
 -- what is told after a list of the fan of a number, and of either fan
-abbrev pub told : (fan : ℤ) → History → Why
+abbrev pub told : (fan : ℤ) → History → Result Reason Refusal
 told n h = why_for n (taken h)
 
-abbrev pub told_of : FanId → History → Why
+abbrev pub told_of : FanId → History → Result Reason Refusal
 told_of f h = told (pos (by_fan 1 2 f)) h
 
 -- ---- the ticket's order
@@ -105,10 +104,10 @@ pub record PageReasons (h : History) : Type 0 where
   -- the reasons have their numbers by the ticket's order
   pub numbered : (r : Reason) → reason_number r ≡ in_order r
   -- "The first of these that holds is given, and no other": it holds; none of an earlier place does; no other of its place does
-  pub holds : (f : FanId) (r : Reason) → told_of f h ≡ Because r → Fact f h r
-  pub first : (f : FanId) (r other : Reason) → told_of f h ≡ Because r → Fact f h other → in_order r ≤ in_order other
-  pub only : (f : FanId) (r other : Reason) → told_of f h ≡ Because r → Fact f h other → in_order other ≡ in_order r → other ≡ r
+  pub holds : (f : FanId) (r : Reason) → told_of f h ≡ Ok r → Fact f h r
+  pub first : (f : FanId) (r other : Reason) → told_of f h ≡ Ok r → Fact f h other → in_order r ≤ in_order other
+  pub only : (f : FanId) (r other : Reason) → told_of f h ≡ Ok r → Fact f h other → in_order other ≡ in_order r → other ≡ r
   -- "the reason, its numbers and the registers together give the duty in force"
-  pub duty : (f : FanId) (r : Reason) → told_of f h ≡ Because r → duty_by f r (λ a. register a h) ≡ duty_out f h
+  pub duty : (f : FanId) (r : Reason) → told_of f h ≡ Ok r → duty_by f r (λ a. register a h) ≡ duty_out f h
   -- "A refused event changes no reason."
   pub refused : (e : Event) (n : ℤ) → accepted e h ≡ false → told n (e ∷ h) ≡ told n h

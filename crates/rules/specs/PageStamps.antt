@@ -1,15 +1,14 @@
 -- The page, T-07 of document 02: the stamp and the fans' ages, by the clock events of the list and by the duties that are shown.
-use Rattle.std.specs.Prelude.{ℕ, suc, ◌%◌, ◌<◌, ◌≡◌, true, false, cond, ◌&&◌, List, [], ◌∷◌, ◌++◌, eqb, ℤ, pos}
+use Rattle.std.specs.Prelude.{ℕ, suc, ◌%◌, ◌<◌, ◌≡◌, true, false, cond, ◌&&◌, List, [], ◌∷◌, ◌++◌, eqb, ℤ, pos, Result, Ok}
 use Rattle.integer.specs.Bits.{bit_of}
 use Rattle.part.specs.declared.FanId.{FanId}
 use Rattle.event.specs.Kinds.{is_kind}
-use Rattle.event.specs.declared.Aged.{Aged}
-use Rattle.event.specs.declared.Aged.TheVariants.{Clocks}
+use Rattle.event.specs.declared.Refusal.{Refusal}
 use Rattle.event.specs.declared.Event.{Event}
 use Rattle.event.specs.declared.Explanation.{Explanation}
 use Rattle.event.specs.declared.Kind.TheVariants as kind
 use Rattle.rules.specs.Replies.{History, taken, accepted}
-use Rattle.rules.specs.Stamps.{stamp, age_for, age_number, explanation_for}
+use Rattle.rules.specs.Stamps.{stamp, age_for, age_number, explanation_for, reason_told, age_told}
 use Rattle.rules.specs.PageWords.{power, Accepted, duty_out, reply_number, by_fan}
 use Rattle.rules.specs.PageReplies.{one_of, power_on}
 use Rattle.rules.specs.PageTemperatures.{reset}
@@ -19,14 +18,14 @@ use Rattle.rules.specs.PageReasons.{told}
 abbrev pub stamp_out : History → ℕ
 stamp_out h = stamp (taken h)
 
-abbrev pub aged_at : (fan : ℤ) → History → Aged
+abbrev pub aged_at : (fan : ℤ) → History → Result ℕ Refusal
 aged_at n h = age_for n (taken h)
 
-abbrev pub aged_fan : FanId → History → Aged
+abbrev pub aged_fan : FanId → History → Result ℕ Refusal
 aged_fan f h = aged_at (pos (by_fan 1 2 f)) h
 
 -- and what is told of a fan in one answer
-abbrev pub explained_at : (fan : ℤ) → History → Explanation
+abbrev pub explained_at : (fan : ℤ) → History → Result Explanation Refusal
 explained_at n h = explanation_for n (taken h)
 
 -- ---- counted in the list
@@ -55,9 +54,9 @@ NoStarts f (e ∷ t) h = NoStarts f t h × (Accepted e (t ++ h) → NoStart f e 
 -- h has just set the stamp of the fan: from then on, until it is set again, its age counts the clock events
 pub record AgeSince (f : FanId) (h : History) : Type 0 where
   -- "their difference modulo 65,536"
-  pub modulo : (t : List Event) → NoStarts f t h → aged_fan f (t ++ h) ≡ Clocks (tenths_in t h % 65536)
+  pub modulo : (t : List Event) → NoStarts f t h → aged_fan f (t ++ h) ≡ Ok (tenths_in t h % 65536)
   -- "the true count of clock events as long as fewer than 65,536 have passed since that fan stamp was set"
-  pub true_count : (t : List Event) → NoStarts f t h → tenths_in t h < 65536 → aged_fan f (t ++ h) ≡ Clocks (tenths_in t h)
+  pub true_count : (t : List Event) → NoStarts f t h → tenths_in t h < 65536 → aged_fan f (t ++ h) ≡ Ok (tenths_in t h)
 
 pub record PageStamps (h : History) : Type 0 where
   -- refusals: 1 before power, whatever the number; then 3 for a number that is no fan's; else an age
@@ -65,9 +64,9 @@ pub record PageStamps (h : History) : Type 0 where
   pub no_fan : (n : ℤ) → power_on h ≡ true → one_of (1 ∷ 2 ∷ []) n ≡ false → age_number (aged_at n h) ≡ 3
   pub given : (f : FanId) → power_on h ≡ true → age_number (aged_fan f h) ≡ 0
   -- "Reasons should say how long": one answer has what is told of the reason (T-03) and, beside it, the age; 0 where none is told
-  pub reason : (n : ℤ) → (explained_at n h).why ≡ told n h
-  pub beside : (n : ℤ) (clocks : ℕ) → aged_at n h ≡ Clocks clocks → (explained_at n h).age ≡ clocks
-  pub untold : (n : ℤ) → 0 < age_number (aged_at n h) → (explained_at n h).age ≡ 0
+  pub reason : (n : ℤ) → reason_told (explained_at n h) ≡ told n h
+  pub beside : (n : ℤ) (clocks : ℕ) → aged_at n h ≡ Ok clocks → age_told (explained_at n h) ≡ clocks
+  pub untold : (n : ℤ) → 0 < age_number (aged_at n h) → age_told (explained_at n h) ≡ 0
   -- "a stamp, the number of accepted clock events since power modulo 65,536"; 0 before power
   pub stamp :
       (w x y : ℤ) (t : List Event) → Accepted (power w x y) h → Unpowered t (power w x y ∷ h) →

@@ -1,5 +1,5 @@
 -- T-06 of document 02: the panel after the accepted events, in degrees and revolutions a minute.
-use Rattle.std.specs.Prelude.{ℕ, suc, ◌*◌, true, false, cond, [], ◌∷◌, eqb, ℤ, pos, negsuc, get_or, Float}
+use Rattle.std.specs.Prelude.{ℕ, suc, ◌*◌, true, false, cond, [], ◌∷◌, eqb, ℤ, pos, negsuc, get_or, Float, Result, Ok, Err}
 use Rattle.std.specs.Float.{binary64}
 use Rattle.std.specs.Float.Ieee.{round}
 use Rattle.part.specs.declared.ChannelId.TheVariants.{Local, Remote1, Remote2}
@@ -10,8 +10,7 @@ use Rattle.event.specs.declared.Refusal.TheVariants.{NoPower}
 use Rattle.event.specs.declared.FanSpeed.{FanSpeed}
 use Rattle.event.specs.declared.FanSpeed.TheVariants.{NotMeasured, Stalled, Speed}
 use Rattle.event.specs.declared.Panel as panel
-use Rattle.event.specs.declared.Paneled.{Paneled}
-use Rattle.event.specs.declared.Paneled.TheVariants.{Panel, Refused}
+use Rattle.event.specs.declared.Refusal.{Refusal}
 use Rattle.rules.specs.Registers.{speed_at, characteristics_at}
 use Rattle.rules.specs.Fields.{speed_range}
 use Rattle.rules.specs.Stored.{Taken, powered, stored_at}
@@ -52,11 +51,11 @@ figures d =
     }
 
 -- 1 before power
-unfoldable pub panel_for : Taken → Paneled
+unfoldable pub panel_for : Taken → Result panel.Panel Refusal
 unfolding figures
-panel_for d = cond (powered d) (Panel (figures d)) (Refused NoPower)
+panel_for d = cond (powered d) (Ok (figures d)) (Err NoPower)
 
 -- the number of the reply: 0 where there is a panel
-abbrev pub panel_number : Paneled → ℕ
-panel_number (Panel p) = 0
-panel_number (Refused r) = refusal_number r
+abbrev pub panel_number : Result panel.Panel Refusal → ℕ
+panel_number (Ok p) = 0
+panel_number (Err r) = refusal_number r

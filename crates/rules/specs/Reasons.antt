@@ -1,5 +1,5 @@
 -- T-03 of document 02: why a fan has its duty, over the accepted events. The first of eight reasons that holds.
-use Rattle.std.specs.Prelude.{ℕ, ◌-◌, Bool, cond, not, ◌&&◌, List, [], ◌∷◌, eqb, ltb, ℤ}
+use Rattle.std.specs.Prelude.{ℕ, ◌-◌, Bool, cond, not, ◌&&◌, List, [], ◌∷◌, eqb, ltb, ℤ, Result, Ok, Err}
 use Rattle.integer.specs.Bits.{flag_of}
 use Rattle.part.specs.declared.ChannelId.{ChannelId}
 use Rattle.part.specs.declared.ChannelId.TheVariants.{Local, Remote1, Remote2}
@@ -10,8 +10,7 @@ use Rattle.event.specs.declared.Refusal.TheVariants.{NoPower, NoSuchPart}
 use Rattle.event.specs.declared.Ramp.{Ramp}
 use Rattle.event.specs.declared.Reason.{Reason}
 use Rattle.event.specs.declared.Reason.TheVariants as reason
-use Rattle.event.specs.declared.Why.{Why}
-use Rattle.event.specs.declared.Why.TheVariants.{Because, Refused}
+use Rattle.event.specs.declared.Refusal.{Refusal}
 use Rattle.rules.specs.Registers.{config1, behaviour}
 use Rattle.rules.specs.Fields.{assignment, automatic, therm_drives_fans}
 use Rattle.rules.specs.Events.{is_number, channel_number, fan_number}
@@ -44,9 +43,9 @@ reason_values reason.Manual = []
 reason_values (reason.Demand c) = channel_number c ∷ []
 
 -- the number of the reply: 0 where there is a reason
-abbrev pub why_number : Why → ℕ
-why_number (Because r) = 0
-why_number (Refused r) = refusal_number r
+abbrev pub why_number : Result Reason Refusal → ℕ
+why_number (Ok r) = 0
+why_number (Err r) = refusal_number r
 
 -- ---- the reason
 
@@ -75,9 +74,9 @@ reason_for f d =
     (reason.Demand (lowest_with (eqb (asked f Local d) (target f d)) (eqb (asked f Remote1 d) (target f d))))))))))
 
 -- what is told of the fan of a number: 1 before power, 3 for a number that is no fan's, else the reason
-unfoldable pub why_for : (fan : ℤ) → Taken → Why
+unfoldable pub why_for : (fan : ℤ) → Taken → Result Reason Refusal
 why_for n d =
     cond (powered d)
-    (cond (is_number n (fan_number One)) (Because (reason_for One d))
-    (cond (is_number n (fan_number Two)) (Because (reason_for Two d)) (Refused NoSuchPart)))
-    (Refused NoPower)
+    (cond (is_number n (fan_number One)) (Ok (reason_for One d))
+    (cond (is_number n (fan_number Two)) (Ok (reason_for Two d)) (Err NoSuchPart)))
+    (Err NoPower)

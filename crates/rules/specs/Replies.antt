@@ -1,10 +1,9 @@
 -- Document 01, "The reply numbers": when each applies, that the lowest is given, and so which events are accepted.
-use Rattle.std.specs.Prelude.{ℕ, ◌%◌, Bool, false, cond, not, ◌&&◌, ◌||◌, List, [], ◌∷◌, leb, eqb, ℤ, pos, negsuc}
+use Rattle.std.specs.Prelude.{ℕ, ◌%◌, Bool, false, cond, not, ◌&&◌, ◌||◌, List, [], ◌∷◌, leb, eqb, ℤ, pos, negsuc, Result, Ok, Err}
 use Rattle.part.specs.declared.ChannelId.TheVariants.{Remote1, Remote2}
 use Rattle.event.specs.Kinds.{is_kind}
 use Rattle.event.specs.Answers.{number_of}
-use Rattle.event.specs.declared.Answer.{Answer}
-use Rattle.event.specs.declared.Answer.TheVariants.{Done, Refused}
+use Rattle.event.specs.declared.Refusal.{Refusal}
 use Rattle.event.specs.declared.Refusal.TheVariants.{NoPower, OtherAddress, NoSuchPart, NoSuchRegister, ReadOnly, OutOfRange, BadRangeCode, OddLocal}
 use Rattle.event.specs.declared.Refusal.TheVariants.{NotMonitoring, BrokenDiode}
 use Rattle.event.specs.declared.Event.{Event}
@@ -73,25 +72,25 @@ broken_diode error1 error2 e = (samples Remote1 e && error1) || (samples Remote2
 -- ---- the reply
 
 -- the lowest that applies, in what is asked of the past: power, own address, monitoring, diode errors; a read's data is filled in by what it reads
-unfoldable pub lowest : (on : Bool) (own : ℕ) (monitoring error1 error2 : Bool) → Event → Answer
+unfoldable pub lowest : (on : Bool) (own : ℕ) (monitoring error1 error2 : Bool) → Event → Result ℕ Refusal
 lowest on own monitoring error1 error2 e =
-    cond (no_power on e) (Refused NoPower)
-    (cond (other_address own e) (Refused OtherAddress)
-    (cond (no_part e) (Refused NoSuchPart)
-    (cond (no_register e) (Refused NoSuchRegister)
-    (cond (read_only e) (Refused ReadOnly)
-    (cond (out_of_range e) (Refused OutOfRange)
-    (cond (bad_code e) (Refused BadRangeCode)
-    (cond (odd_local e) (Refused OddLocal)
-    (cond (not_monitoring monitoring e) (Refused NotMonitoring)
-    (cond (broken_diode error1 error2 e) (Refused BrokenDiode) (Done 0))))))))))
+    cond (no_power on e) (Err NoPower)
+    (cond (other_address own e) (Err OtherAddress)
+    (cond (no_part e) (Err NoSuchPart)
+    (cond (no_register e) (Err NoSuchRegister)
+    (cond (read_only e) (Err ReadOnly)
+    (cond (out_of_range e) (Err OutOfRange)
+    (cond (bad_code e) (Err BadRangeCode)
+    (cond (odd_local e) (Err OddLocal)
+    (cond (not_monitoring monitoring e) (Err NotMonitoring)
+    (cond (broken_diode error1 error2 e) (Err BrokenDiode) (Ok 0))))))))))
 
 -- the reply to the next event after the accepted ones
-unfoldable pub reply_to : Event → Taken → Answer
+unfoldable pub reply_to : Event → Taken → Result ℕ Refusal
 reply_to e d = lowest (powered d) (own_address d) (monitors (stored_at config1 d)) (diode_error Remote1 d) (diode_error Remote2 d) e
 
 -- an event is accepted where its reply number is 0
-abbrev pub accepts : Answer → Bool
+abbrev pub accepts : Result ℕ Refusal → Bool
 accepts a = eqb (number_of a) 0
 
 -- every event that was given, with any numbers, the newest first; and those of them that were accepted

@@ -1,5 +1,5 @@
 -- What the rules say is shown and answered after the accepted events: registers, INT, THERM, FAN_FAULT, duties, register image.
-use Rattle.std.specs.Prelude.{ℕ, zero, suc, ◌+◌, ◌*◌, ◌/◌, Bool, false, cond, not, ◌&&◌, ◌||◌, List, [], ◌∷◌, ltb, leb, eqb, ℤ, length}
+use Rattle.std.specs.Prelude.{ℕ, zero, suc, ◌+◌, ◌*◌, ◌/◌, Bool, false, cond, not, ◌&&◌, ◌||◌, List, [], ◌∷◌, ltb, leb, eqb, ℤ, length, Result, Ok, Err}
 use Rattle.std.proofs.lemmas.List.Edits.{sets}
 use Rattle.integer.specs.Bits.{bit_of, flag_of, packed}
 use Rattle.part.specs.declared.ChannelId.TheVariants.{Local, Remote1, Remote2}
@@ -8,8 +8,7 @@ use Rattle.part.specs.declared.FanId.TheVariants.{One, Two}
 use Rattle.event.specs.Kinds.{is_kind}
 use Rattle.event.specs.declared.Event.{Event}
 use Rattle.event.specs.declared.Kind.TheVariants as kind
-use Rattle.event.specs.declared.Answer.{Answer}
-use Rattle.event.specs.declared.Answer.TheVariants.{Done, Refused}
+use Rattle.event.specs.declared.Refusal.{Refusal}
 use Rattle.event.specs.declared.Refusal.TheVariants.{NoPower, WrongSize}
 use Rattle.event.specs.declared.Shown.{Shown}
 use Rattle.rules.specs.Registers.{config1, status_at, extended, value_at, exists_at}
@@ -103,8 +102,8 @@ shown d =
 -- ---- answers
 
 -- the answer to the next event: its refusal, or done, with data for a read alone
-unfoldable pub answer : Event → History → Answer
-answer e h = cond (accepts (reply_to e (taken h))) (Done (cond (is_kind kind.Read e) (value (pointer (taken h)) (taken h)) 0)) (reply_to e (taken h))
+unfoldable pub answer : Event → History → Result ℕ Refusal
+answer e h = cond (accepts (reply_to e (taken h))) (Ok (cond (is_kind kind.Read e) (value (pointer (taken h)) (taken h)) 0)) (reply_to e (taken h))
 
 -- the register image (below the reply table): place a holds what a read of a would return
 unfoldable pub values_from : (from count : ℕ) → Taken → List ℕ
@@ -112,8 +111,8 @@ values_from a zero d = []
 values_from a (suc n) d = value a d ∷ values_from (suc a) n d
 
 -- what the image is answered, and what the lent buffer then holds
-unfoldable pub image_reply : (buffer : List ℕ) → Taken → Answer
-image_reply buffer d = cond (powered d) (cond (ltb (length buffer) 64) (Refused WrongSize) (Done 0)) (Refused NoPower)
+unfoldable pub image_reply : (buffer : List ℕ) → Taken → Result ℕ Refusal
+image_reply buffer d = cond (powered d) (cond (ltb (length buffer) 64) (Err WrongSize) (Ok 0)) (Err NoPower)
 
 unfoldable pub image_held : (buffer : List ℕ) → Taken → List ℕ
 image_held buffer d = cond (powered d) (cond (ltb (length buffer) 64) buffer (sets buffer 0 (values_from 0 64 d))) buffer

@@ -17,28 +17,21 @@ use Rattle.trace.proofs.WholeLaws.{written, only_written}
 use Rattle.report.specs.Report.{field_text, answer_text}
 use Rattle.keeper.specs.declared.Keeper as keeper
 use Rattle.history.specs.Agreement.{run}
-use Rattle.runner.specs.declared.Reached.{Reached}
-use Rattle.runner.specs.declared.Reached.TheVariants as reached
-use Rattle.runner.specs.declared.Last.{Last}
-use Rattle.runner.specs.declared.Last.TheVariants.{Keeper, Refused}
-use Rattle.runner.specs.Reached.{reached_by, last_of, last_by}
+use Rattle.std.specs.Prelude.{Option, Result, Ok, Err, ok_or}
+use Rattle.runner.specs.Reached.{reached_by, last_by}
 use Rattle.runner.specs.Lines.{whole_lines, lines_after, LinesOf}
 
 -- ---- what `after_last` returns
 
 module _ (text : List ℕ) where
-  pub last_long : 65536 < length text → Refused refusal.WrongSize ≡ last_by text
+  pub last_long : 65536 < length text → Err refusal.WrongSize ≡ last_by text
   unfolding last_by
   last_long l = rw (lt-ltb 65536 (length text) l)
 
-  module _ (short : length text ≤ 65536) {r : Reached} (ran : r ≡ reached_by (events_of text)) where
-    pub last_wrong : r ≡ reached.Malformed → Refused refusal.Malformed ≡ last_by text
+  module _ (short : length text ≤ 65536) {r : Option keeper.Keeper} (ran : r ≡ reached_by (events_of text)) where
+    pub last_judged : {l : Result keeper.Keeper Refusal} → l ≡ ok_or r refusal.Malformed → l ≡ last_by text
     unfolding last_by
-    last_wrong q = rw (le-ltb 65536 (length text) short, ← ran, q)
-
-    pub last_kept : {k : keeper.Keeper} → r ≡ reached.Keeper k → Keeper k ≡ last_by text
-    unfolding last_by
-    last_kept q = rw (le-ltb 65536 (length text) short, ← ran, q)
+    last_judged q = rw (le-ltb 65536 (length text) short, ← ran) q
 
 -- ---- lines by the keeper
 
@@ -48,27 +41,27 @@ module _ (lines : History → List ℕ) (text : List ℕ) where
   judged short = rw (le-ltb 65536 (length text) short)
 
   -- of each text: it is too long, or malformed, or leaves the keeper of its events
-  pub by_last : (P : Last → List ℕ → Type 0) → P (Refused refusal.WrongSize) (answer_text (refusal_number refusal.WrongSize))
-      → P (Refused refusal.Malformed) (answer_text (refusal_number refusal.Malformed)) → ((h : History) → P (Keeper (run h)) (lines h))
+  pub by_last : (P : Result keeper.Keeper Refusal → List ℕ → Type 0) → P (Err refusal.WrongSize) (answer_text (refusal_number refusal.WrongSize))
+      → P (Err refusal.Malformed) (answer_text (refusal_number refusal.Malformed)) → ((h : History) → P (Ok (run h)) (lines h))
       → P (last_by text) (lines_after lines text)
   unfolding last_by lines_after
   by_last P long wrong kept = by_cases (ltb 65536 (length text)) (λ l. rw l long) (λ s. rw s (go (events_of text)))
     where
-      go : (w : Whole) → P (last_of (reached_by w)) (whole_lines lines w)
+      go : (w : Whole) → P (ok_or (reached_by w) refusal.Malformed) (whole_lines lines w)
       go (Events h) = (unfold reached_by whole_lines in kept h)
       go WrongLine = (unfold reached_by whole_lines in wrong)
 
-  module _ {l : Last} (is : l ≡ last_by text) where
-    pub refused_lines : {r : Refusal} → l ≡ Refused r → answer_text (refusal_number r) ≡ lines_after lines text
+  module _ {l : Result keeper.Keeper Refusal} (is : l ≡ last_by text) where
+    pub refused_lines : {r : Refusal} → l ≡ Err r → answer_text (refusal_number r) ≡ lines_after lines text
     refused_lines {r} q =
-        by_last (λ x t. x ≡ Refused r → answer_text (refusal_number r) ≡ t)
+        by_last (λ x t. x ≡ Err r → answer_text (refusal_number r) ≡ t)
         (λ e. let s : refusal.WrongSize ≡ r = cc in rw (← s))
         (λ e. let s : refusal.Malformed ≡ r = cc in rw (← s))
         (λ h e. cc) (sym is ∙ q)
 
-    pub kept_lines : {k : keeper.Keeper} {t : List ℕ} → l ≡ Keeper k → ((h : History) → k ≡ run h → t ≡ lines h) → t ≡ lines_after lines text
+    pub kept_lines : {k : keeper.Keeper} {t : List ℕ} → l ≡ Ok k → ((h : History) → k ≡ run h → t ≡ lines h) → t ≡ lines_after lines text
     kept_lines {k} {t} q each =
-        by_last (λ x u. x ≡ Keeper k → t ≡ u)
+        by_last (λ x u. x ≡ Ok k → t ≡ u)
         (λ e. cc)
         (λ e. cc)
         (λ h e. let s : run h ≡ k = cc in each h (sym s)) (sym is ∙ q)

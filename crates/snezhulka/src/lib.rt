@@ -14,7 +14,8 @@ ghost use Rattle.std.specs.Prelude.{◌≡◌, length, take};
 ghost use Rattle.std.proofs.lemmas.List.Edits.{sets};
 ghost use Rattle.event.specs.Answers.{number_of};
 ghost use Rattle.rules.specs.AlertRow.{row_answer, row_after};
-ghost use Rattle.buffer.specs.Put.{put_of, held_of, end_of};
+ghost use Rattle.buffer.specs.Put.{put_of, held_of};
+ghost use Rattle.std.specs.Result.{result_unwrap_or};
 ghost use Rattle.player.specs.Report.{replay_answer, replay_buffer};
 ghost use Rattle.stepper.specs.Steps.{steps_answer, steps_buffer};
 ghost use Rattle.reasoner.specs.Reasons.{reasons_answer, reasons_buffer};
@@ -23,31 +24,32 @@ ghost use Rattle.imager.specs.Image.{image_after, image_left};
 ghost use Rattle.imager.specs.Figures.{panel_after, figures_left, cases_left};
 ghost use Rattle.rewriter.specs.Rewritten.{copy_end};
 ghost use Rattle.rewriter.specs.Wrong.{wrong_line};
-ghost use Rattle.snezhulka.specs.Exported.{no_length, data_left};
+ghost use Rattle.snezhulka.specs.Exported.{no_length};
 
-use event::{AlertEntry, Answer};
+use event::AlertEntry;
 
 // What a refusal is told by: the largest number.
-const REFUSED: usize = 18446744073709551615;
+// Stays: C has no Result, the exported functions answer it a number.
+const REFUSED: usize = usize::MAX;
 
 // How long the report is; or the largest number, where text or buffer has the wrong size, and the buffer as it was.
 #[unsafe(no_mangle)]
 pub extern "C" fn snezhulka_replay(text: &[u8], report: &mut [u8]) -> usize
-    ensures value { result ≡ end_of (replay_answer text.now report.old) no_length }
+    ensures value { result ≡ result_unwrap_or (replay_answer text.now report.old) no_length }
     ensures report_after { report.new ≡ replay_buffer text.now report.old }
 {
-    buffer::end_of(player::replay(text, report), REFUSED)
+    player::replay(text, report).unwrap_or(REFUSED)
 }
 
-// Events as four numbers each: the kind from 0 (power) to 9 (alert) in the order of the trace format, who, arg, val.
+// Events as four numbers each: the kind from 0 (power) to 10 (diode) in the order of the trace format, who, arg, val.
 // Outcomes as seven bytes each, in the order of the report: how many bytes, up to the first event of another kind; or the
 // largest number, where the numbers are no whole events or the buffer is too short for all, and the buffer as it was.
 #[unsafe(no_mangle)]
 pub extern "C" fn snezhulka_steps(numbers: &[i32], outcomes: &mut [u8]) -> usize
-    ensures value { result ≡ end_of (steps_answer numbers.now outcomes.old) no_length }
+    ensures value { result ≡ result_unwrap_or (steps_answer numbers.now outcomes.old) no_length }
     ensures outcomes_after { outcomes.new ≡ steps_buffer numbers.now outcomes.old }
 {
-    buffer::end_of(stepper::steps(numbers, outcomes), REFUSED)
+    stepper::steps(numbers, outcomes).unwrap_or(REFUSED)
 }
 
 // Why both fans have their duties after each of the same events, eight bytes an event: for fan 1, then fan 2, the number of the
@@ -56,10 +58,10 @@ pub extern "C" fn snezhulka_steps(numbers: &[i32], outcomes: &mut [u8]) -> usize
 // buffer is too short for all, and the buffer as it was.
 #[unsafe(no_mangle)]
 pub extern "C" fn snezhulka_reasons(numbers: &[i32], reasons: &mut [u8]) -> usize
-    ensures value { result ≡ end_of (reasons_answer numbers.now reasons.old) no_length }
+    ensures value { result ≡ result_unwrap_or (reasons_answer numbers.now reasons.old) no_length }
     ensures reasons_after { reasons.new ≡ reasons_buffer numbers.now reasons.old }
 {
-    buffer::end_of(reasoner::reasons(numbers, reasons), REFUSED)
+    reasoner::reasons(numbers, reasons).unwrap_or(REFUSED)
 }
 
 // The stamp, and since how many clock events both fans turn, after each of the same events, three numbers an event: the stamp, the
@@ -68,10 +70,10 @@ pub extern "C" fn snezhulka_reasons(numbers: &[i32], reasons: &mut [u8]) -> usiz
 // as it was.
 #[unsafe(no_mangle)]
 pub extern "C" fn snezhulka_ages(numbers: &[i32], ages: &mut [u16]) -> usize
-    ensures value { result ≡ end_of (ages_answer numbers.now ages.old) no_length }
+    ensures value { result ≡ result_unwrap_or (ages_answer numbers.now ages.old) no_length }
     ensures ages_after { ages.new ≡ ages_buffer numbers.now ages.old }
 {
-    buffer::end_of(reasoner::ages(numbers, ages), REFUSED)
+    reasoner::ages(numbers, ages).unwrap_or(REFUSED)
 }
 
 // The register image after the same events, in the first 64 bytes of the buffer: its reply number, 0, 1 or 11; 10 where
@@ -112,20 +114,10 @@ pub extern "C" fn snezhulka_rewrite(text: &[u8], copy: &mut [u8]) -> usize
 // one is empty or missing; or the largest number, where the buffer is too short for it, and the buffer as it was.
 #[unsafe(no_mangle)]
 pub extern "C" fn snezhulka_wrong_line(text: &[u8], line: &mut [u8]) -> usize
-    ensures value { result ≡ end_of (put_of line.old 0 (wrong_line text.now)) no_length }
+    ensures value { result ≡ result_unwrap_or (put_of line.old 0 (wrong_line text.now)) no_length }
     ensures line_after { line.new ≡ held_of line.old 0 (wrong_line text.now) }
 {
-    buffer::end_of(rewriter::wrong_line(text, line), REFUSED)
-}
-
-// What the caller's byte holds then: the data where it is done, else what it held.
-fn data_left(a: Answer, was: u8) -> u8
-    ensures { result ≡ data_left a was }
-{
-    match a {
-        Answer::Done(d) => d,
-        Answer::Refused(_) => was,
-    }
+    rewriter::wrong_line(text, line).unwrap_or(REFUSED)
 }
 
 // The search at the alert response address, 0x0C, over a row of entries, `struct { uint8_t address; bool asserting; }`: the reply
@@ -134,9 +126,9 @@ fn data_left(a: Answer, was: u8) -> u8
 pub extern "C" fn snezhulka_alert(row: &mut [AlertEntry], data: &mut u8) -> u8
     ensures { (result ≡ number_of (row_answer row.old))
         × (row.new ≡ row_after row.old)
-        × («data».new ≡ data_left (row_answer row.old) «data».old) }
+        × («data».new ≡ result_unwrap_or (row_answer row.old) «data».old) }
 {
     let answer = alert::respond(row);
-    *data = data_left(answer, *data);
+    *data = answer.unwrap_or(*data);
     event::number_of(answer)
 }

@@ -1,19 +1,13 @@
--- An event that stores nothing; the byte at an address. Assumes nothing.
+-- An event that stores nothing. Assumes nothing.
 use Prim.Native.Nat.{ℕ}
 use mathlib.Core.Bool.{Bool, true, false, ◌||◌, and-false}
-use mathlib.Core.List.{List, [], ◌∷◌}
-use mathlib.Core.Path.{◌≡◌, refl, sym, ap, ◌∙◌}
-use borrow.Author.Tests.{not-true, ne_eqb}
+use mathlib.Core.Path.{◌≡◌, sym, ◌∙◌}
+use borrow.Author.Tests.{not-true}
 use Rattle.integer.proofs.BoolLaws.{neither}
-use Rattle.part.specs.declared.ChannelId.{ChannelId}
-use Rattle.part.specs.declared.ChannelId.TheVariants.{Local, Remote1, Remote2}
-use Rattle.part.specs.declared.FanId.{FanId}
-use Rattle.part.specs.declared.FanId.TheVariants.{One, Two}
 use Rattle.event.specs.declared.Kind.TheVariants as kind
 use Rattle.input.specs.Inputs.{is_a, is_restart}
 use Rattle.input.specs.declared.Input.{Input}
 use Rattle.stored.specs.Stored.{stored_after, stores_nothing, channel_bytes, fan_bytes, bytes, registers_after}
-use Rattle.stored.specs.Stored.{channel_registers_of, fan_registers_of, Cell, cells, found, stored_in}
 use Rattle.stored.specs.declared.Registers.{Registers}
 
 -- ---- an event that stores nothing leaves every byte
@@ -35,40 +29,3 @@ module _ (i : Input) (nothing : stores_nothing i ≡ true) where
 
 pub kept : {b : Bool} (i : Input) (s : Registers) → b ≡ stores_nothing i → b ≡ true → s ≡ registers_after i s
 kept i s e t = same_registers i (sym e ∙ t) s
-
--- ---- a channel's, a fan's own
-
-module _ (s : Registers) where
-  pub of_local : {c : ChannelId} → c ≡ Local → s.local ≡ channel_registers_of s c
-  of_local e = rw e
-
-  pub of_remote1 : {c : ChannelId} → c ≡ Remote1 → s.remote1 ≡ channel_registers_of s c
-  of_remote1 e = rw e
-
-  pub of_remote2 : {c : ChannelId} → c ≡ Remote2 → s.remote2 ≡ channel_registers_of s c
-  of_remote2 e = rw e
-
-  pub of_one : {f : FanId} → f ≡ One → s.fan1 ≡ fan_registers_of s f
-  of_one e = rw e
-
-  pub of_two : {f : FanId} → f ≡ Two → s.fan2 ≡ fan_registers_of s f
-  of_two e = rw e
-
--- ---- the byte at an address
-
-pub known : {a k : ℕ} (s : Registers) → a ≡ k → stored_in s k ≡ stored_in s a
-known s e = ap (stored_in s) (sym e)
-
--- in no cell; the first stands last, as a `match` that goes through them backwards leaves it
-unfoldable pub Elsewhere : List Cell → ℕ → Type 0
-Elsewhere [] a = Unit
-Elsewhere (c ∷ cs) a = Elsewhere cs a × (a ≡ c.address → ⊥)
-
-nowhere : (cs : List Cell) (a : ℕ) → Elsewhere cs a → 0 ≡ found cs a
-unfolding Elsewhere found
-nowhere [] a h = refl
-nowhere (c ∷ cs) a h = rw (ne_eqb a c.address h.1) (nowhere cs a h.0)
-
-pub absent : (s : Registers) (a : ℕ) → Elsewhere (cells s) a → 0 ≡ stored_in s a
-unfolding stored_in
-absent s a h = nowhere (cells s) a h

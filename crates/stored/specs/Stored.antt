@@ -1,12 +1,14 @@
 -- The bytes that the chip stores, after an event.
-use Rattle.std.specs.Prelude.{ℕ, ◌%◌, Bool, cond, not, ◌&&◌, ◌||◌, List, [], ◌∷◌, eqb}
+use Rattle.std.specs.Prelude.{ℕ, Bool, cond, not, ◌&&◌, ◌||◌, List, [], ◌∷◌, eqb, ltb, Option, Some, None}
 use Rattle.integer.specs.Bits.{merged_of}
 use Rattle.part.specs.declared.ChannelId.{ChannelId}
 use Rattle.part.specs.declared.ChannelId.TheVariants.{Local, Remote1, Remote2}
 use Rattle.part.specs.declared.FanId.{FanId}
 use Rattle.part.specs.declared.FanId.TheVariants.{One, Two}
+use Rattle.part.specs.Each.{map_channels, map_fans}
 use Rattle.event.specs.declared.Kind.TheVariants as kind
-use Rattle.rules.specs.Registers.{config1, config2, test, speed_at, offset_at, tach_limit_at, high_limit_at, low_limit_at, therm_limit_at, characteristics_at, speeds}
+use Rattle.rules.specs.Registers.{config1, config2, test, speed_at, offset_at, tach_limit_at, high_limit_at, low_limit_at, therm_limit_at}
+use Rattle.rules.specs.Registers.{characteristics_at, speeds}
 use Rattle.rules.specs.Registers.{filter, control_at, device, company, behaviour, mask_at, reset_at}
 use Rattle.input.specs.declared.Input.{Input}
 use Rattle.input.specs.Inputs.{is_a, byte_in, is_count, is_write, is_restart}
@@ -57,25 +59,12 @@ bytes next s =
       speeds = next speeds s.speeds;
       filter = next filter s.filter;
       behaviour = next behaviour s.behaviour;
-      local = channel_bytes next Local s.local;
-      remote1 = channel_bytes next Remote1 s.remote1;
-      remote2 = channel_bytes next Remote2 s.remote2;
-      fan1 = fan_bytes next One s.fan1;
-      fan2 = fan_bytes next Two s.fan2;
+      channels = map_channels (channel_bytes next) s.channels;
+      fans = map_fans (fan_bytes next) s.fans;
     }
 
 unfoldable pub registers_after : Input → Registers → Registers
 registers_after i s = bytes (λ a was. stored_after a i was) s
-
--- a channel's, a fan's own
-abbrev pub channel_registers_of : Registers → ChannelId → ChannelRegisters
-channel_registers_of s Local = s.local
-channel_registers_of s Remote1 = s.remote1
-channel_registers_of s Remote2 = s.remote2
-
-abbrev pub fan_registers_of : Registers → FanId → FanRegisters
-fan_registers_of s One = s.fan1
-fan_registers_of s Two = s.fan2
 
 -- ---- the stored byte at an address, 0 where none is stored
 
@@ -92,29 +81,29 @@ cells s =
     cell config1 s.config1
     ∷ cell config2 s.config2
     ∷ cell test s.test
-    ∷ cell (speed_at One) s.fan1.speed
-    ∷ cell (speed_at Two) s.fan2.speed
-    ∷ cell (offset_at Local) s.local.offset
-    ∷ cell (offset_at Remote1) s.remote1.offset
-    ∷ cell (offset_at Remote2) s.remote2.offset
-    ∷ cell (tach_limit_at One) s.fan1.limit
-    ∷ cell (tach_limit_at Two) s.fan2.limit
-    ∷ cell (high_limit_at Local) s.local.high
-    ∷ cell (low_limit_at Local) s.local.low
-    ∷ cell (therm_limit_at Local) s.local.therm
-    ∷ cell (high_limit_at Remote1) s.remote1.high
-    ∷ cell (low_limit_at Remote1) s.remote1.low
-    ∷ cell (therm_limit_at Remote1) s.remote1.therm
-    ∷ cell (high_limit_at Remote2) s.remote2.high
-    ∷ cell (low_limit_at Remote2) s.remote2.low
-    ∷ cell (therm_limit_at Remote2) s.remote2.therm
-    ∷ cell (characteristics_at One) s.fan1.characteristics
-    ∷ cell (characteristics_at Two) s.fan2.characteristics
+    ∷ cell (speed_at One) s.fans.one.speed
+    ∷ cell (speed_at Two) s.fans.two.speed
+    ∷ cell (offset_at Local) s.channels.local.offset
+    ∷ cell (offset_at Remote1) s.channels.remote1.offset
+    ∷ cell (offset_at Remote2) s.channels.remote2.offset
+    ∷ cell (tach_limit_at One) s.fans.one.limit
+    ∷ cell (tach_limit_at Two) s.fans.two.limit
+    ∷ cell (high_limit_at Local) s.channels.local.high
+    ∷ cell (low_limit_at Local) s.channels.local.low
+    ∷ cell (therm_limit_at Local) s.channels.local.therm
+    ∷ cell (high_limit_at Remote1) s.channels.remote1.high
+    ∷ cell (low_limit_at Remote1) s.channels.remote1.low
+    ∷ cell (therm_limit_at Remote1) s.channels.remote1.therm
+    ∷ cell (high_limit_at Remote2) s.channels.remote2.high
+    ∷ cell (low_limit_at Remote2) s.channels.remote2.low
+    ∷ cell (therm_limit_at Remote2) s.channels.remote2.therm
+    ∷ cell (characteristics_at One) s.fans.one.characteristics
+    ∷ cell (characteristics_at Two) s.fans.two.characteristics
     ∷ cell speeds s.speeds
     ∷ cell filter s.filter
-    ∷ cell (control_at Local) s.local.control
-    ∷ cell (control_at Remote1) s.remote1.control
-    ∷ cell (control_at Remote2) s.remote2.control
+    ∷ cell (control_at Local) s.channels.local.control
+    ∷ cell (control_at Remote1) s.channels.remote1.control
+    ∷ cell (control_at Remote2) s.channels.remote2.control
     ∷ cell device 0x31
     ∷ cell company 0x41
     ∷ cell behaviour s.behaviour
@@ -129,12 +118,14 @@ stored_in s a = found (cells s) a
 
 -- ---- the same said of the one byte that an event stores
 
--- its address, 256 where it stores none; the byte that stands there then
-unfoldable pub place_in : Input → ℕ
-place_in i = cond (is_a kind.Write i) i.arg (cond (is_count One i) (speed_at One) (cond (is_count Two i) (speed_at Two) 256))
+-- its address, where it stores one; the byte that stands there then
+unfoldable pub place_in : Input → Option ℕ
+place_in i =
+    cond (is_a kind.Write i) (cond (ltb i.arg 256) (Some i.arg) None)
+    (cond (is_count One i) (Some (speed_at One)) (cond (is_count Two i) (Some (speed_at Two)) None))
 
-unfoldable pub byte_for : Input → Registers → ℕ
-byte_for i s = cond (is_a kind.Write i) (merged_of (mask_at (i.arg % 256)) (stored_in s (i.arg % 256)) (byte_in i)) (byte_in i)
+unfoldable pub byte_for : Input → (at : ℕ) → Registers → ℕ
+byte_for i at s = cond (is_a kind.Write i) (merged_of (mask_at at) (stored_in s at) (byte_in i)) (byte_in i)
 
 abbrev pub put_at : (at byte : ℕ) → (address was : ℕ) → ℕ
 put_at at byte a was = cond (eqb at a) byte was

@@ -1,7 +1,6 @@
 #![tactic(auto)]
 // The bytes that the chip stores, and what an event makes of them.
 // A byte is known by its address in the register table.
-mod addresses;
 mod cells;
 mod fields;
 mod put;
@@ -11,14 +10,14 @@ ghost use Rattle.std.specs.Prelude.{◌≡◌};
 ghost use Rattle.rules.specs.Registers.{status_at};
 ghost use Rattle.stored.specs.Stored.{stores_nothing, registers_after};
 
-pub use cells::{channel_registers_of, fan_registers_of, stored_in};
+pub use cells::stored_in;
 use event::Kind;
 pub use fields::{channel_enabled, filter_enabled, output_enabled, tach_enabled};
 use input::Input;
-use part::FanId;
+use part::{FanId, PerChannel, PerFan};
 
 // The bytes of a channel's registers.
-#[derive(Clone, Copy)]
+#[derive(Clone, Copy, Default)]
 pub struct ChannelRegisters {
     pub offset: u8,
     pub high: u8,
@@ -28,14 +27,14 @@ pub struct ChannelRegisters {
 }
 
 // The bytes of a fan's registers.
-#[derive(Clone, Copy)]
+#[derive(Clone, Copy, Default)]
 pub struct FanRegisters {
     pub speed: u8,
     pub limit: u8,
     pub characteristics: u8,
 }
 
-#[derive(Clone, Copy)]
+#[derive(Clone, Copy, Default)]
 pub struct Registers {
     pub config1: u8,
     pub config2: u8,
@@ -43,11 +42,8 @@ pub struct Registers {
     pub speeds: u8,
     pub filter: u8,
     pub behaviour: u8,
-    pub local: ChannelRegisters,
-    pub remote1: ChannelRegisters,
-    pub remote2: ChannelRegisters,
-    pub fan1: FanRegisters,
-    pub fan2: FanRegisters,
+    pub channels: PerChannel<ChannelRegisters>,
+    pub fans: PerFan<FanRegisters>,
 }
 
 // What moves a part: the event, the registers as they stand after it, the pointer as it stood before it.
@@ -62,10 +58,7 @@ pub struct Context {
 pub fn status_at(f: FanId) -> u8
     ensures { result ≡ status_at f }
 {
-    match f {
-        FanId::One => 0x02,
-        FanId::Two => 0x03,
-    }
+    0x02 + f as u8
 }
 
 // ---- bytes after an event
@@ -77,13 +70,22 @@ pub fn stores_nothing(i: Input) -> bool
     !(input::is_restart(i) | (input::is_a(Kind::Write, i) | input::is_a(Kind::Tach, i)))
 }
 
-// Every byte: after a start afresh as after power, else all as they were but the one that the event stores.
-pub fn registers_after(i: Input, s: Registers) -> Registers
-    ensures { result ≡ registers_after i s }
-{
-    if input::is_restart(i) {
-        reset::reset(s)
-    } else {
-        put::put(put::place_in(i), put::byte_for(i, s), s)
+impl Registers {
+    // After a start afresh every byte as after power, else all as they were but the one that the event stores.
+    #[tactic(auto, using(crate::proofs::Laws::kept, crate::proofs::PutLaws::nothing_put))]
+    pub fn accept(&mut self, i: Input)
+        ensures { self.new ≡ registers_after i self.old }
+    {
+        if stores_nothing(i) {
+            return;
+        }
+        if input::is_restart(i) {
+            *self = reset::after_power();
+            return;
+        }
+        if let Some(at) = put::place_in(i) {
+            let byte = put::byte_for(i, at, *self);
+            self.put(at, byte);
+        }
     }
 }

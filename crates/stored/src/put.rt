@@ -1,98 +1,73 @@
 // The byte that an event stores, put at its address.
-// Every byte compares its own address with that one, and is replaced or stays.
 ghost use Rattle.std.specs.Prelude.{◌≡◌};
-ghost use Rattle.stored.specs.Stored.{place_in, byte_for, put_at, channel_bytes, fan_bytes, bytes};
+ghost use Rattle.stored.specs.Stored.{place_in, byte_for, put_at, bytes};
 
-use super::{ChannelRegisters, FanRegisters, Registers, addresses, cells};
+use super::{Registers, cells};
 use event::Kind;
 use input::Input;
-use part::{ChannelId, FanId};
 
-// The address that a write or a count is for; 256, where there is no byte, for every other event.
-pub fn place_in(i: Input) -> u32
+// The address that a write or a count is for, where there is one.
+#[tactic(auto, unfolding(crate::specs::Stored::place_in))]
+pub fn place_in(i: Input) -> Option<u8>
     ensures { result ≡ place_in i }
 {
-    if input::is_a(Kind::Write, i) {
-        return i.arg;
-    }
-    if input::is_count(FanId::One, i) {
-        return addresses::speed_at(FanId::One) as u32;
-    }
-    if input::is_count(FanId::Two, i) {
-        addresses::speed_at(FanId::Two) as u32
-    } else {
-        256
+    match (i.kind, i.who) {
+        (Kind::Write, _) => u8::try_from(i.arg).ok(),
+        (Kind::Tach, 1) => Some(0x08),
+        (Kind::Tach, 2) => Some(0x09),
+        _ => None,
     }
 }
 
 // The byte that stands there then: what is written, read-only bits keeping theirs; or the count.
-pub fn byte_for(i: Input, s: Registers) -> u8
-    ensures { result ≡ byte_for i s }
+#[tactic(auto, unfolding(crate::specs::Stored::byte_for))]
+pub fn byte_for(i: Input, at: u8, s: Registers) -> u8
+    ensures { result ≡ byte_for i at s }
 {
+    let byte = input::byte_in(i);
     if input::is_a(Kind::Write, i) {
-        let a = (i.arg % 256) as u8;
-        integer::merged(
-            register::mask_at(a),
-            cells::stored_in(s, a),
-            input::byte_in(i),
-        )
+        integer::merged(register::mask_at(at), cells::stored_in(s, at), byte)
     } else {
-        input::byte_in(i)
+        byte
     }
 }
 
-fn put_at(at: u32, byte: u8, address: u8, was: u8) -> u8
-    ensures { result ≡ put_at at byte address was }
-{
-    if at == address as u32 { byte } else { was }
-}
-
-fn channel_put(at: u32, byte: u8, c: ChannelId, l: ChannelRegisters) -> ChannelRegisters
-    ensures { result ≡ channel_bytes (put_at at byte) c l }
-{
-    ChannelRegisters {
-        offset: put_at(at, byte, addresses::offset_at(c), l.offset),
-        high: put_at(at, byte, addresses::high_limit_at(c), l.high),
-        low: put_at(at, byte, addresses::low_limit_at(c), l.low),
-        therm: put_at(at, byte, addresses::therm_limit_at(c), l.therm),
-        control: put_at(at, byte, addresses::control_at(c), l.control),
-    }
-}
-
-fn fan_put(at: u32, byte: u8, f: FanId, b: FanRegisters) -> FanRegisters
-    ensures { result ≡ fan_bytes (put_at at byte) f b }
-{
-    FanRegisters {
-        speed: put_at(at, byte, addresses::speed_at(f), b.speed),
-        limit: put_at(at, byte, addresses::tach_limit_at(f), b.limit),
-        characteristics: put_at(
-            at,
-            byte,
-            addresses::characteristics_at(f),
-            b.characteristics,
-        ),
-    }
-}
-
-pub fn put(at: u32, byte: u8, s: Registers) -> Registers
-    ensures { result ≡ bytes (put_at at byte) s }
-{
-    let local = channel_put(at, byte, ChannelId::Local, s.local);
-    let remote1 = channel_put(at, byte, ChannelId::Remote1, s.remote1);
-    let remote2 = channel_put(at, byte, ChannelId::Remote2, s.remote2);
-    let fan1 = fan_put(at, byte, FanId::One, s.fan1);
-    let fan2 = fan_put(at, byte, FanId::Two, s.fan2);
-    Registers {
-        config1: put_at(at, byte, 0x00, s.config1),
-        config2: put_at(at, byte, 0x01, s.config2),
-        test: put_at(at, byte, 0x07, s.test),
-        speeds: put_at(at, byte, 0x22, s.speeds),
-        filter: put_at(at, byte, 0x23, s.filter),
-        behaviour: put_at(at, byte, 0x3F, s.behaviour),
-        local,
-        remote1,
-        remote2,
-        fan1,
-        fan2,
+impl Registers {
+    // One byte at its address; at any other address nothing.
+    // Stays: addresses as numbers, since the field in each row names its register, and a list of 29 names would say them twice.
+    #[tactic(auto, unfolding(crate::specs::Stored::bytes, crate::specs::Stored::channel_bytes, crate::specs::Stored::fan_bytes))]
+    pub fn put(&mut self, at: u8, byte: u8)
+        ensures { self.new ≡ bytes (put_at at byte) self.old }
+    {
+        match at {
+            0x00 => self.config1 = byte,
+            0x01 => self.config2 = byte,
+            0x07 => self.test = byte,
+            0x08 => self.fans.one.speed = byte,
+            0x09 => self.fans.two.speed = byte,
+            0x0D => self.channels.local.offset = byte,
+            0x0E => self.channels.remote1.offset = byte,
+            0x0F => self.channels.remote2.offset = byte,
+            0x10 => self.fans.one.limit = byte,
+            0x11 => self.fans.two.limit = byte,
+            0x14 => self.channels.local.high = byte,
+            0x15 => self.channels.local.low = byte,
+            0x16 => self.channels.local.therm = byte,
+            0x18 => self.channels.remote1.high = byte,
+            0x19 => self.channels.remote1.low = byte,
+            0x1A => self.channels.remote1.therm = byte,
+            0x1C => self.channels.remote2.high = byte,
+            0x1D => self.channels.remote2.low = byte,
+            0x1E => self.channels.remote2.therm = byte,
+            0x20 => self.fans.one.characteristics = byte,
+            0x21 => self.fans.two.characteristics = byte,
+            0x22 => self.speeds = byte,
+            0x23 => self.filter = byte,
+            0x24 => self.channels.local.control = byte,
+            0x25 => self.channels.remote1.control = byte,
+            0x26 => self.channels.remote2.control = byte,
+            0x3F => self.behaviour = byte,
+            _ => {}
+        }
     }
 }

@@ -1,47 +1,48 @@
-// The bytes after power or the software reset.
-// Nothing stays of those before, which stand in the contracts alone.
+// The bytes after power or the software reset; nothing stays of those before.
 ghost use Rattle.std.specs.Prelude.{◌≡◌};
-ghost use Rattle.stored.specs.Stored.{reset_to, channel_bytes, fan_bytes, bytes};
+ghost use Rattle.stored.specs.Stored.{reset_to, bytes};
 
-use super::{ChannelRegisters, FanRegisters, Registers, addresses};
-use part::{ChannelId, FanId};
+use super::{ChannelRegisters, FanRegisters, Registers};
+use part::{PerChannel, PerFan};
 
-fn channel_reset(c: ChannelId, l: ChannelRegisters) -> ChannelRegisters
-    ensures { result ≡ channel_bytes reset_to c l }
-{
-    ChannelRegisters {
-        offset: register::reset_at(addresses::offset_at(c)),
-        high: register::reset_at(addresses::high_limit_at(c)),
-        low: register::reset_at(addresses::low_limit_at(c)),
-        therm: register::reset_at(addresses::therm_limit_at(c)),
-        control: register::reset_at(addresses::control_at(c)),
-    }
-}
+const LOCAL: ChannelRegisters = ChannelRegisters {
+    offset: 0,
+    high: 60,
+    low: 0,
+    therm: 70,
+    control: 0x41,
+};
 
-fn fan_reset(f: FanId, b: FanRegisters) -> FanRegisters
-    ensures { result ≡ fan_bytes reset_to f b }
-{
-    FanRegisters {
-        speed: register::reset_at(addresses::speed_at(f)),
-        limit: register::reset_at(addresses::tach_limit_at(f)),
-        characteristics: register::reset_at(addresses::characteristics_at(f)),
-    }
-}
+const REMOTE: ChannelRegisters = ChannelRegisters {
+    offset: 0,
+    high: 80,
+    low: 0,
+    therm: 100,
+    control: 0x61,
+};
 
-pub fn reset(s: Registers) -> Registers
-    ensures { result ≡ bytes reset_to s }
+const FAN: FanRegisters = FanRegisters {
+    speed: 0,
+    limit: 0xFF,
+    characteristics: 0x5D,
+};
+
+// Whatever the bytes were before, each is what the register table says.
+pub fn after_power() -> Registers
+    ensures { (s : Registers) → result ≡ bytes reset_to s }
 {
     Registers {
-        config1: register::reset_at(0x00),
-        config2: register::reset_at(0x01),
-        test: register::reset_at(0x07),
-        speeds: register::reset_at(0x22),
-        filter: register::reset_at(0x23),
-        behaviour: register::reset_at(0x3F),
-        local: channel_reset(ChannelId::Local, s.local),
-        remote1: channel_reset(ChannelId::Remote1, s.remote1),
-        remote2: channel_reset(ChannelId::Remote2, s.remote2),
-        fan1: fan_reset(FanId::One, s.fan1),
-        fan2: fan_reset(FanId::Two, s.fan2),
+        config1: 0x90,
+        config2: 0x7F,
+        test: 0x00,
+        speeds: 0x55,
+        filter: 0x50,
+        behaviour: 0x80,
+        channels: PerChannel {
+            local: LOCAL,
+            remote1: REMOTE,
+            remote2: REMOTE,
+        },
+        fans: PerFan::all(FAN),
     }
 }

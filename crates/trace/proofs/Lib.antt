@@ -7,3 +7,4 @@ pub mod Onward
 pub mod RoundTrip
 pub mod Canonical
 pub mod WholeLaws
+pub mod Finding

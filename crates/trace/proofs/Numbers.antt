@@ -1,30 +1,24 @@
 -- Laws of the lines that give a number, in `specs/Trace.antt`. Assumes nothing.
-use Prim.Native.Nat.{ℕ, suc, ◌+◌, ◌-◌, ◌≤◌, ◌<◌}
+use Prim.Native.Nat.{ℕ, ◌+◌, ◌-◌, ◌≤◌, ◌<◌}
 use mathlib.Core.Path.{◌≡◌, refl, sym, ap, ◌∙◌}
 use mathlib.Core.List.{List, [], ◌∷◌, ◌++◌, append_assoc}
-use mathlib.Core.Bool.{Bool, true, false, cond, ◌&&◌}
+use mathlib.Core.Bool.{Bool, true, false, cond}
 use native.Mathlib.Omega.{arith}
-use native.Mathlib.Numerals.{add-one}
-use borrow.Author.Tests.{leb-true, eqb-true}
 use mir.Syntax.{w32}
 use mir.Val.{SFits, to_z, of_z}
-use mir.ValLaws.{to_z-of_z, to_z_pos}
-use lib.Dec.{leb, eqb}
+use mir.ValLaws.{to_z-of_z}
+use lib.Dec.{eqb}
 use lib.IntN.{ℤ, pos}
 use lib.ListN.{length, get_or, take, drop, length-append, take-append-drop}
 use lib.Seq.{take-append_seam, drop-append_seam, drop-drop, drop-cons}
-use Rattle.integer.proofs.BoolLaws.{both}
-use Rattle.decimal.specs.declared.Decimal.{Decimal}
-use Rattle.decimal.specs.declared.Decimal.TheVariants.{Number, Malformed}
+use Rattle.std.specs.Prelude.{Option, Some, None}
 use Rattle.decimal.specs.Decimal.{parse_of, text_of}
 use Rattle.decimal.proofs.Laws.{decimal_small}
 use Rattle.line.specs.Line.{same_bytes, first_line, line_at, end_at}
 use Rattle.line.proofs.Bytes.{same_self}
-use Rattle.trace.specs.declared.Field.{Field}
-use Rattle.trace.specs.declared.Field.TheVariants as field
 use Rattle.trace.specs.Trace.{number_named, given_by, number_line, ended, number_text}
 use Rattle.trace.proofs.Lines.{unended, read_as}
-use Rattle.trace.proofs.Places.{reached, stands_then, stands_not, stands_fits}
+use Rattle.trace.proofs.Places.{stands_then, stands_not, stands_fits}
 use Rattle.trace.proofs.RoundTrip.{number_line_lem}
 use Rattle.trace.proofs.Canonical.{FieldStands, number_stands}
 
@@ -35,58 +29,43 @@ unfolding number_named same_bytes
 bare l = refl
 
 module _ (s : List ℕ) (at : ℕ) {e : ℕ} (end : e ≡ end_at s at) where
-  pub decimal_unended : length s ≤ e → field.Wrong ≡ number_line [] s at
+  pub decimal_unended : length s ≤ e → None ≡ number_line [] s at
   unfolding number_line
-  decimal_unended h = unended given_by field.Wrong (number_named []) s at end h
+  decimal_unended h = unended given_by None (number_named []) s at end h
 
-  read : {d : Decimal} → e < length s → d ≡ parse_of (take (e - at) (drop at s)) → number_line [] s at ≡ given_by (e + 1) d
+  read : {d : Option ℤ} → e < length s → d ≡ parse_of (take (e - at) (drop at s)) → number_line [] s at ≡ given_by (e + 1) d
   unfolding number_line
-  read h q = read_as given_by field.Wrong (number_named []) s at end h (q ∙ bare (take (e - at) (drop at s)))
+  read h q = read_as given_by None (number_named []) s at end h (q ∙ bare (take (e - at) (drop at s)))
 
-  pub decimal_given : {d : Decimal} {v : ℤ} → e < length s → d ≡ parse_of (take (e - at) (drop at s)) → d ≡ Number v → SFits w32 v
-      → field.Number (to_z w32 (of_z w32 v)) (e + 1) ≡ number_line [] s at
+  pub decimal_given : {d : Option ℤ} {v : ℤ} → e < length s → d ≡ parse_of (take (e - at) (drop at s)) → d ≡ Some v → SFits w32 v
+      → Some (to_z w32 (of_z w32 v), e + 1) ≡ number_line [] s at
   decimal_given {v = v} h q k f = rw (read h q, k, to_z-of_z w32 v f)
 
-  pub decimal_malformed : {d : Decimal} → e < length s → d ≡ parse_of (take (e - at) (drop at s)) → d ≡ Malformed → field.Wrong ≡ number_line [] s at
+  pub decimal_malformed : {d : Option ℤ} → e < length s → d ≡ parse_of (take (e - at) (drop at s)) → d ≡ None → None ≡ number_line [] s at
   decimal_malformed h q k = rw (read h q, k)
 
--- ---- one digit
+-- ---- one digit: `rest` is the text from an index on
 
-module _ (s : List ℕ) (at : ℕ) {t : Bool} (e : t ≡ leb (at + 2) (length s)) (h : t ≡ true) where
-  two : at + 2 ≤ length s
-  two = reached (length s) at 2 e h
+module _ (s : List ℕ) (at : ℕ) {rest : List ℕ} (b : rest ≡ drop at s) (two : 2 ≤ length rest)
+    (least : 48 ≤ get_or rest 0 0) (most : get_or rest 0 0 ≤ 57) (newline : get_or rest 1 0 ≡ 10) where
+  abbrev digit : ℕ
+  digit = get_or rest 0 0 - 48
 
-  module _ {r : Bool} (q : r ≡ (leb 48 (get_or s at 0) && (leb (get_or s at 0) 57 && eqb (get_or s (at + 1) 0) 10))) (y : r ≡ true) where
-    bytes : (48 ≤ get_or s at 0) × (get_or s at 0 ≤ 57) × (get_or s (at + 1) 0 ≡ 10)
-    bytes =
-        let u = both (leb 48 (get_or s at 0)) (leb (get_or s at 0) 57 && eqb (get_or s (at + 1) 0) 10) (sym q ∙ y) in
-        let v = both (leb (get_or s at 0) 57) (eqb (get_or s (at + 1) 0) 10) u.1 in
-        (leb-true 48 (get_or s at 0) u.0, leb-true (get_or s at 0) 57 v.0, eqb-true (get_or s (at + 1) 0) 10 v.1)
+  line : text_of (pos digit) ≡ get_or rest 0 0 ∷ []
+  unfolding text_of
+  line = decimal_small digit (omega (arith, most)) ∙ ap (λ (b : ℕ). b ∷ []) (omega (arith, least))
 
-    pub digit_least : 48 ≤ get_or s at 0
-    digit_least = bytes.0
+  line_there : drop at s ≡ ended (text_of (pos digit)) ++ drop 2 rest
+  line_there =
+      let end : drop 1 rest ≡ 10 ∷ drop 2 rest = drop-cons rest 1 0 (omega (arith, two)) ∙ rw newline in
+      sym b ∙ drop-cons rest 0 0 (omega (arith, two)) ∙ rw (end, line)
 
-    pub digit_fits : SFits w32 (pos (get_or s at 0 - 48))
-    digit_fits = record { sfits = omega (arith, bytes) }
-
-    abbrev digit : ℕ
-    digit = get_or s at 0 - 48
-
-    line : text_of (pos digit) ≡ get_or s at 0 ∷ []
-    unfolding text_of
-    line = decimal_small digit (omega (arith, bytes)) ∙ ap (λ (b : ℕ). b ∷ []) (omega (arith, two, bytes))
-
-    line_there : drop at s ≡ ended (text_of (pos digit)) ++ drop (at + 2) s
-    line_there =
-        let n : suc (at + 1) ≡ at + 2 = omega arith in
-        let end : drop (at + 1) s ≡ 10 ∷ drop (at + 2) s = drop-cons s (at + 1) 0 (omega (arith, two, bytes)) ∙ rw (bytes.2, n) in
-        drop-cons s at 0 (omega (arith, two)) ∙ rw (← add-one at, end, line)
-
-    pub digit_given : field.Number (to_z w32 digit) (at + 2) ≡ number_line [] s at
-    digit_given =
-        let n : at + length (ended (text_of (pos digit))) ≡ at + 2 = rw line in
-        let l = number_line_lem s at (drop (at + 2) s) [] (pos digit) tt digit_fits line_there in
-        rw (to_z_pos w32 digit (omega (arith, bytes))) (sym (l ∙ ap (field.Number (pos digit)) n))
+  pub digit_given : {z : ℤ} → z ≡ pos digit → Some (to_z w32 (of_z w32 z), at + 2) ≡ number_line [] s at
+  digit_given e =
+      let fits : SFits w32 (pos digit) = record { sfits = omega (arith, most) } in
+      let n : at + length (ended (text_of (pos digit))) ≡ at + 2 = rw line in
+      let l = number_line_lem s at (drop 2 rest) [] (pos digit) tt fits line_there in
+      rw (e, to_z-of_z w32 (pos digit) fits) (sym (l ∙ ap (λ (k : ℕ). Some (pos digit, k)) n))
 
 -- ---- a name in front of it
 
@@ -118,20 +97,20 @@ module _ (name s : List ℕ) (at : ℕ) (clean : first_line name ≡ name) {r : 
     unfolding end_at
     end_behind = let n = ap length line_behind ∙ length-append name (line_at s (at + length name)) in omega arith
 
-    pub number_behind : {n : ℕ} {f : Field} → length name ≡ n → f ≡ number_line [] s (at + n) → f ≡ number_line name s at
+    pub number_behind : {n : ℕ} {f : Option (ℤ × ℕ)} → length name ≡ n → f ≡ number_line [] s (at + n) → f ≡ number_line name s at
     unfolding number_line
     number_behind hn h = h ∙ rw (← hn, end_behind, line_behind, named_behind)
 
     pub behind_fits : {n m : ℕ} → length name ≡ n → at < m → length s < m → at + n < m
     behind_fits hn l l' = rw (← hn) (stands_fits name s at e y l l')
 
-  pub number_other : r ≡ false → field.Wrong ≡ number_line name s at
+  pub number_other : r ≡ false → None ≡ number_line name s at
   unfolding number_text
   number_other n = go (number_line name s at) (number_stands s name at)
     where
-      go : (f : Field) → FieldStands s name at f → field.Wrong ≡ f
-      go (field.Number z next) h =
+      go : (f : Option (ℤ × ℕ)) → FieldStands s name at f → None ≡ f
+      go (Some (z, next)) h =
           let rest : List ℕ = drop (next - at) (drop at s) in
           let q : drop at s ≡ number_text name z ++ rest = sym (take-append-drop (next - at) (drop at s)) ∙ ap (λ (l : List ℕ). l ++ rest) h.1 in
           absurd (stands_not name s at e n ((text_of z ++ (10 ∷ [])) ++ rest) (q ∙ simp append_assoc))
-      go field.Wrong h = refl
+      go None h = refl

@@ -8,21 +8,13 @@ use lib.Dec.{ltb}
 use lib.IntN.{ℤ, pos, negsuc}
 use lib.ListN.{length, take, drop, length-append, length-take}
 use Rattle.integer.proofs.BoolLaws.{by_cases}
-use Rattle.decimal.specs.declared.Decimal.{Decimal}
-use Rattle.decimal.specs.declared.Decimal.TheVariants.{Number, Malformed}
+use Rattle.std.specs.Prelude.{Option, Some, None, Result, Ok, Err}
 use Rattle.decimal.specs.Decimal.{decimal_of, text_of}
 use Rattle.decimal.proofs.Laws.{small_length, decimal_length}
 use Rattle.event.specs.declared.Event.{Event}
 use Rattle.event.specs.declared.Kind.{Kind}
 use Rattle.event.specs.Kinds.{kind_of, numbers_of}
-use Rattle.trace.specs.declared.Word.{Word}
-use Rattle.trace.specs.declared.Word.TheVariants.{Known, Unknown}
-use Rattle.trace.specs.declared.Named.{Named}
-use Rattle.trace.specs.declared.Named.TheVariants as named
-use Rattle.trace.specs.declared.Field.{Field}
-use Rattle.trace.specs.declared.Field.TheVariants as field
-use Rattle.trace.specs.declared.Reading.{Reading}
-use Rattle.trace.specs.declared.Reading.TheVariants as reading
+use Rattle.trace.specs.declared.Misread.{Misread}
 use Rattle.trace.specs.Words.{who_name, arg_name, val_name, kind_named, named_by, kind_line}
 use Rattle.trace.specs.Trace.{number_named, given_by, number_line, after_val, after_arg, after_who, after_kind, event_at, number_text, numbers_text, event_text}
 use Rattle.trace.proofs.Lines.{either}
@@ -35,56 +27,56 @@ module _ (s : List ℕ) where
   abbrev Further : ℕ → ℕ → Type 0
   Further at next = (at < next) × (next ≤ length s)
 
-  abbrev AfterField : ℕ → Field → Type 0
-  AfterField at (field.Number v next) = Further at next
-  AfterField at field.Wrong = Unit {0}
+  abbrev AfterField : ℕ → Option (ℤ × ℕ) → Type 0
+  AfterField at (Some (v, next)) = Further at next
+  AfterField at None = Unit {0}
 
-  abbrev AfterNamed : ℕ → Named → Type 0
-  AfterNamed at (named.Kind k next) = Further at next
-  AfterNamed at named.Wrong = Unit {0}
+  abbrev AfterNamed : ℕ → Option (Kind × ℕ) → Type 0
+  AfterNamed at (Some (k, next)) = Further at next
+  AfterNamed at None = Unit {0}
 
   after_number : (name : List ℕ) (at : ℕ) → AfterField at (number_line name s at)
   unfolding number_line
-  after_number name at = either given_by field.Wrong (number_named name) s at (AfterField at) tt (λ next l h h' e. given next (number_named name l) h h')
+  after_number name at = either given_by None (number_named name) s at (AfterField at) tt (λ next l h h' e. given next (number_named name l) h h')
     where
-      given : (next : ℕ) (d : Decimal) → at < next → next ≤ length s → AfterField at (given_by next d)
-      given next (Number z) h h' = (h, h')
-      given next Malformed h h' = tt
+      given : (next : ℕ) (d : Option ℤ) → at < next → next ≤ length s → AfterField at (given_by next d)
+      given next (Some z) h h' = (h, h')
+      given next None h h' = tt
 
   after_kind_lem : (at : ℕ) → AfterNamed at (kind_line s at)
   unfolding kind_line
-  after_kind_lem at = either named_by named.Wrong kind_named s at (AfterNamed at) tt (λ next l h h' e. given next (kind_named l) h h')
+  after_kind_lem at = either named_by None kind_named s at (AfterNamed at) tt (λ next l h h' e. given next (kind_named l) h h')
     where
-      given : (next : ℕ) (w : Word) → at < next → next ≤ length s → AfterNamed at (named_by next w)
-      given next (Known k) h h' = (h, h')
-      given next Unknown h h' = tt
+      given : (next : ℕ) (w : Option Kind) → at < next → next ≤ length s → AfterNamed at (named_by next w)
+      given next (Some k) h h' = (h, h')
+      given next None h h' = tt
 
   -- ---- four lines
 
   -- where a reading leaves its reader: within the text, or at one of the four
-  abbrev Left : ℕ → Reading → Type 0
-  Left at (reading.Event e next) = next ≤ length s
-  Left at (reading.Wrong i start) = (i ≤ 3) × (at ≤ start) × (at ≤ length s → start ≤ length s)
+  abbrev Left : ℕ → Result (Event × ℕ) Misread → Type 0
+  Left at (Ok (e, next)) = next ≤ length s
+  Left at (Err w) = (w.line ≤ 3) × (at ≤ w.start) × (at ≤ length s → w.start ≤ length s)
 
   left : (at : ℕ) → Left at (event_at s at)
   unfolding event_at
   left at = kinds (kind_line s at) (after_kind_lem at)
     where
-      vals : (at3 : ℕ) → at ≤ at3 → at3 ≤ length s → (k : Kind) (who arg : ℤ) (f : Field) → AfterField at3 f → Left at (after_val at3 k who arg f)
-      vals at3 h h' k who arg (field.Number val next) a = a.1
-      vals at3 h h' k who arg field.Wrong a = (omega arith, omega arith, λ l. h')
+      vals : (at3 : ℕ) → at ≤ at3 → at3 ≤ length s → (k : Kind) (who arg : ℤ) (f : Option (ℤ × ℕ)) → AfterField at3 f → Left at (after_val at3 k who arg f)
+      vals at3 h h' k who arg (Some (val, next)) a = a.1
+      vals at3 h h' k who arg None a = (omega arith, omega arith, λ l. h')
 
-      args : (at2 : ℕ) → at ≤ at2 → at2 ≤ length s → (k : Kind) (who : ℤ) (f : Field) → AfterField at2 f → Left at (after_arg s at2 k who f)
-      args at2 h h' k who (field.Number arg next) a = vals next (omega arith) (omega arith) k who arg (number_line val_name s next) (after_number val_name next)
-      args at2 h h' k who field.Wrong a = (omega arith, omega arith, λ l. h')
+      args : (at2 : ℕ) → at ≤ at2 → at2 ≤ length s → (k : Kind) (who : ℤ) (f : Option (ℤ × ℕ)) → AfterField at2 f → Left at (after_arg s at2 k who f)
+      args at2 h h' k who (Some (arg, next)) a = vals next (omega arith) (omega arith) k who arg (number_line val_name s next) (after_number val_name next)
+      args at2 h h' k who None a = (omega arith, omega arith, λ l. h')
 
-      whos : (at1 : ℕ) → at ≤ at1 → at1 ≤ length s → (k : Kind) (f : Field) → AfterField at1 f → Left at (after_who s at1 k f)
-      whos at1 h h' k (field.Number who next) a = args next (omega arith) (omega arith) k who (number_line arg_name s next) (after_number arg_name next)
-      whos at1 h h' k field.Wrong a = (omega arith, omega arith, λ l. h')
+      whos : (at1 : ℕ) → at ≤ at1 → at1 ≤ length s → (k : Kind) (f : Option (ℤ × ℕ)) → AfterField at1 f → Left at (after_who s at1 k f)
+      whos at1 h h' k (Some (who, next)) a = args next (omega arith) (omega arith) k who (number_line arg_name s next) (after_number arg_name next)
+      whos at1 h h' k None a = (omega arith, omega arith, λ l. h')
 
-      kinds : (n : Named) → AfterNamed at n → Left at (after_kind s at n)
-      kinds (named.Kind k next) a = whos next (omega arith) (omega arith) k (number_line who_name s next) (after_number who_name next)
-      kinds named.Wrong a = (omega arith, omega arith, λ l. l)
+      kinds : (n : Option (Kind × ℕ)) → AfterNamed at n → Left at (after_kind s at n)
+      kinds (Some (k, next)) a = whos next (omega arith) (omega arith) k (number_line who_name s next) (after_number who_name next)
+      kinds None a = (omega arith, omega arith, λ l. l)
 
 -- ---- an event's text
 
@@ -105,11 +97,12 @@ event_long e =
     simp length-append (omega (arith, kind_long (kind_of e), text_long n.who, text_long n.arg, text_long n.val))
 
 -- the next event starts an event's text on, within the text
-pub onward : (s : List ℕ) (at : ℕ) {e : Event} {next : ℕ} {r : Reading} → r ≡ event_at s at → r ≡ reading.Event e next → (at + 27 ≤ next) × (next ≤ length s)
+pub onward : (s : List ℕ) (at : ℕ) {e : Event} {next : ℕ} {r : Result (Event × ℕ) Misread} → r ≡ event_at s at → r ≡ Ok (e, next)
+    → (at + 27 ≤ next) × (next ≤ length s)
 onward s at {e} {next} h q =
     let n : length (take (next - at) (drop at s)) ≡ length (event_text e) = ap length (canonical s at (sym h ∙ q)) in
     (omega (arith, event_long e, length-take (next - at) (drop at s)), rw (sym h ∙ q) at (left s at))
 
 -- a wrong line is one of the four and starts at the first of them or further on, within the text where they start there
-pub wrong_place : (s : List ℕ) (at : ℕ) {i start : ℕ} → event_at s at ≡ reading.Wrong i start → (i ≤ 3) × (at ≤ start) × (at ≤ length s → start ≤ length s)
+pub wrong_place : (s : List ℕ) (at : ℕ) {w : Misread} → event_at s at ≡ Err w → (w.line ≤ 3) × (at ≤ w.start) × (at ≤ length s → w.start ≤ length s)
 wrong_place s at q = rw q at (left s at)

@@ -12,7 +12,7 @@ use lib.ListN.{length, drop, length-append, length-drop}
 use lib.Seq.{take-append_seam, drop-append_seam, drop-drop}
 use borrow.Author.Tests.{lt-ltb, eqb-true, eqb-false, ne_eqb, not-true}
 use Rattle.integer.proofs.BoolLaws.{both}
-use Rattle.decimal.specs.declared.Decimal.TheVariants.{Number}
+use Rattle.std.specs.Prelude.{Option, Some, None, Ok}
 use Rattle.decimal.specs.Decimal.{text_of}
 use Rattle.decimal.proofs.Clean.{Clean, clean_append, no_newline}
 use Rattle.decimal.proofs.RoundTrip as decimal
@@ -22,11 +22,6 @@ use Rattle.event.specs.Kinds.{kind_of, numbers_of, kinds, kind_at, place_of}
 use Rattle.event.proofs.Laws.{passes, passed, kind_back, place_small, event_back}
 use Rattle.line.specs.Line.{same_bytes, first_line, line_at, end_at}
 use Rattle.line.proofs.Bytes.{same_self}
-use Rattle.trace.specs.declared.Word.{Word}
-use Rattle.trace.specs.declared.Word.TheVariants.{Known, Unknown}
-use Rattle.trace.specs.declared.Named.TheVariants as named
-use Rattle.trace.specs.declared.Field.TheVariants as field
-use Rattle.trace.specs.declared.Reading.TheVariants as reading
 use Rattle.trace.specs.Words.{kind_text, who_name, arg_name, val_name, kind_in, kind_named, named_by, kind_line}
 use Rattle.trace.specs.Trace.{number_named, given_by, number_line, event_at, ended, number_text, numbers_text, event_text}
 use Rattle.trace.proofs.Lines.{line_as}
@@ -63,14 +58,14 @@ clean_then [] y = tt
 clean_then (b ∷ bs) y = let t = both (not (eqb b 10)) (clean bs) y in (eqb-false b 10 (not-true (eqb b 10) t.0), clean_then bs t.1)
 
 -- a word that stands for the kind at a place
-names : ℕ → Word → Bool
-names p (Known k) = eqb (place_of k) p
-names p Unknown = false
+names : ℕ → Option Kind → Bool
+names p (Some k) = eqb (place_of k) p
+names p None = false
 
-names_then : (p : ℕ) (w : Word) → names p w ≡ true → w ≡ Known (kind_at p)
+names_then : (p : ℕ) (w : Option Kind) → names p w ≡ true → w ≡ Some (kind_at p)
 unfolding names
-names_then p (Known k) y = ap Known (sym (kind_back k) ∙ ap kind_at (eqb-true (place_of k) p y))
-names_then p Unknown y = cc
+names_then p (Some k) y = ap Some (sym (kind_back k) ∙ ap kind_at (eqb-true (place_of k) p y))
+names_then p None y = cc
 
 -- each kind's line has no newline, and names it
 line_back : ℕ → Bool
@@ -80,32 +75,32 @@ lines_back : passes line_back (length kinds) ≡ true
 unfolding passes line_back clean names kind_named kind_in same_bytes
 lines_back = refl
 
-kind_names : (k : Kind) → Clean (kind_text k) × (kind_named (kind_text k) ≡ Known k)
+kind_names : (k : Kind) → Clean (kind_text k) × (kind_named (kind_text k) ≡ Some k)
 unfolding line_back
 kind_names k =
     let p : ℕ = place_of k in
     let l : List ℕ = kind_text (kind_at p) in
     let t = both (clean l) (names p (kind_named l)) (passed line_back (length kinds) lines_back p (place_small k)) in
-    let r : Clean l × (kind_named l ≡ Known (kind_at p)) = (clean_then l t.0, names_then p (kind_named l) t.1) in
+    let r : Clean l × (kind_named l ≡ Some (kind_at p)) = (clean_then l t.0, names_then p (kind_named l) t.1) in
     rw (kind_back k) at r
 
-value_back : (name : List ℕ) (z : ℤ) → SFits w32 z → number_named name (name ++ text_of z) ≡ Number z
+value_back : (name : List ℕ) (z : ℤ) → SFits w32 z → number_named name (name ++ text_of z) ≡ Some z
 unfolding number_named
 value_back name z f = rw (take-append_seam, same_self, drop-append_seam) (decimal.round_trip z f)
 
 -- ---- an event
 
 module _ (text : List ℕ) (at : ℕ) (after : List ℕ) where
-  pub kind_line_lem : (k : Kind) → drop at text ≡ ended (kind_text k) ++ after → kind_line text at ≡ named.Kind k (at + length (ended (kind_text k)))
+  pub kind_line_lem : (k : Kind) → drop at text ≡ ended (kind_text k) ++ after → kind_line text at ≡ Some (k, at + length (ended (kind_text k)))
   unfolding kind_line
   kind_line_lem k stands =
-      line_back_lem text at (kind_text k) after stands named_by named.Wrong kind_named (kind_names k).0 ∙ rw (kind_names k).1
+      line_back_lem text at (kind_text k) after stands named_by None kind_named (kind_names k).0 ∙ rw (kind_names k).1
 
   pub number_line_lem : (name : List ℕ) (z : ℤ) → Clean name → SFits w32 z → drop at text ≡ ended (name ++ text_of z) ++ after
-      → number_line name text at ≡ field.Number z (at + length (ended (name ++ text_of z)))
+      → number_line name text at ≡ Some (z, at + length (ended (name ++ text_of z)))
   unfolding number_line
   number_line_lem name z c f stands =
-      line_back_lem text at (name ++ text_of z) after stands given_by field.Wrong (number_named name) (clean_append name (text_of z) c (no_newline z))
+      line_back_lem text at (name ++ text_of z) after stands given_by None (number_named name) (clean_append name (text_of z) c (no_newline z))
       ∙ rw (value_back name z f)
 
 four : (a b c d after : List ℕ) → (a ++ (b ++ (c ++ d))) ++ after ≡ a ++ (b ++ (c ++ (d ++ after)))
@@ -117,7 +112,7 @@ four_lengths a b c d = simp length-append
 -- an event whose text stands at an index is read there, and the next one starts behind it
 pub read_back : (text : List ℕ) (at : ℕ) (e : Event) (after : List ℕ) → drop at text ≡ event_text e ++ after
     → SFits w32 (numbers_of e).who → SFits w32 (numbers_of e).arg → SFits w32 (numbers_of e).val
-    → event_at text at ≡ reading.Event e (at + length (event_text e))
+    → event_at text at ≡ Ok (e, at + length (event_text e))
 unfolding event_at event_text numbers_text number_text
 read_back text at e after stands f f' f'' =
     let kind : List ℕ = kind_text (kind_of e) in
@@ -142,8 +137,8 @@ read_back text at e after stands f f' f'' =
       four_lengths (ended kind) (ended who) (ended arg) (ended val),
       event_back e,
     )
-    (ap (λ (n : ℕ). reading.Event e n) (omega arith))
+    (ap (λ (n : ℕ). Ok (e, n)) (omega arith))
 
 pub round_trip : (before after : List ℕ) (e : Event) → SFits w32 (numbers_of e).who → SFits w32 (numbers_of e).arg → SFits w32 (numbers_of e).val
-    → event_at (before ++ (event_text e ++ after)) (length before) ≡ reading.Event e (length before + length (event_text e))
+    → event_at (before ++ (event_text e ++ after)) (length before) ≡ Ok (e, length before + length (event_text e))
 round_trip before after e = read_back (before ++ (event_text e ++ after)) (length before) e after (drop-append_seam before (event_text e ++ after))

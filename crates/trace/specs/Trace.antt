@@ -1,7 +1,5 @@
 -- Document 01, "Trace text and report": four lines an event, kind=, who=, arg=, val=, each ended by a newline.
-use Rattle.std.specs.Prelude.{ℕ, ◌+◌, List, [], ◌∷◌, ◌++◌, cond, ltb, ℤ, length, take, drop}
-use Rattle.decimal.specs.declared.Decimal.{Decimal}
-use Rattle.decimal.specs.declared.Decimal.TheVariants.{Number, Malformed}
+use Rattle.std.specs.Prelude.{ℕ, ◌+◌, List, [], ◌∷◌, ◌++◌, cond, ltb, ℤ, length, take, drop, Option, Some, None, Result, Ok, Err}
 use Rattle.decimal.specs.Decimal.{parse_of, text_of}
 use Rattle.event.specs.declared.Event.{Event}
 use Rattle.event.specs.declared.Numbers.{Numbers}
@@ -9,52 +7,42 @@ use Rattle.event.specs.declared.Kind.{Kind}
 use Rattle.event.specs.Kinds.{kind_of, numbers_of, event_of}
 use Rattle.line.specs.Line.{same_bytes, line_at, end_at}
 use Rattle.trace.specs.Words.{kind_text, who_name, arg_name, val_name, kind_line}
-use Rattle.trace.specs.declared.Named.{Named}
-use Rattle.trace.specs.declared.Named.TheVariants as named
-use Rattle.trace.specs.declared.Field.{Field}
-use Rattle.trace.specs.declared.Field.TheVariants as field
-use Rattle.trace.specs.declared.Reading.{Reading}
-use Rattle.trace.specs.declared.Reading.TheVariants as reading
+use Rattle.trace.specs.declared.Misread.{Misread}
 
 -- ---- reading
 
--- how many these bytes are, where they stand in a text at an index; else 0
-unfoldable pub standing : (bytes text : List ℕ) → ℕ → ℕ
-unfolding same_bytes
-standing bytes text at = cond (same_bytes (take (length bytes) (drop at text)) bytes) (length bytes) 0
-
 -- the decimal behind a name on a line without its newline
-unfoldable pub number_named : (name line : List ℕ) → Decimal
+unfoldable pub number_named : (name line : List ℕ) → Option ℤ
 unfolding same_bytes parse_of
-number_named name line = cond (same_bytes (take (length name) line) name) (parse_of (drop (length name) line)) Malformed
+number_named name line = cond (same_bytes (take (length name) line) name) (parse_of (drop (length name) line)) None
 
-abbrev pub given_by : (next : ℕ) → Decimal → Field
-given_by next (Number z) = field.Number z next
-given_by next Malformed = field.Wrong
+abbrev pub given_by : (next : ℕ) → Option ℤ → Option (ℤ × ℕ)
+given_by next (Some z) = Some (z, next)
+given_by next None = None
 
 -- the line at an index as a name and a decimal, ended by a newline
-unfoldable pub number_line : (name text : List ℕ) → ℕ → Field
+unfoldable pub number_line : (name text : List ℕ) → ℕ → Option (ℤ × ℕ)
 unfolding number_named line_at end_at
-number_line name text at = cond (ltb (end_at text at) (length text)) (given_by (end_at text at + 1) (number_named name (line_at text at))) field.Wrong
+number_line name text at = cond (ltb (end_at text at) (length text)) (given_by (end_at text at + 1) (number_named name (line_at text at))) None
 
 -- the four lines, each read where the one before it ended; a wrong one by its place from 0 and its start
-abbrev pub after_val : (start : ℕ) → Kind → (who arg : ℤ) → Field → Reading
-after_val start k who arg (field.Number val next) = reading.Event (event_of k (record { who = who; arg = arg; val = val })) next
-after_val start k who arg field.Wrong = reading.Wrong 3 start
+abbrev pub after_val : (start : ℕ) → Kind → (who arg : ℤ) → Option (ℤ × ℕ) → Result (Event × ℕ) Misread
+after_val start k who arg (Some (val, next)) = Ok (event_of k (record { who = who; arg = arg; val = val }), next)
+after_val start k who arg None = Err (record { line = 3; start = start })
 
-abbrev pub after_arg : List ℕ → (start : ℕ) → Kind → (who : ℤ) → Field → Reading
-after_arg text start k who (field.Number arg next) = after_val next k who arg (number_line val_name text next)
-after_arg text start k who field.Wrong = reading.Wrong 2 start
+abbrev pub after_arg : List ℕ → (start : ℕ) → Kind → (who : ℤ) → Option (ℤ × ℕ) → Result (Event × ℕ) Misread
+after_arg text start k who (Some (arg, next)) = after_val next k who arg (number_line val_name text next)
+after_arg text start k who None = Err (record { line = 2; start = start })
 
-abbrev pub after_who : List ℕ → (start : ℕ) → Kind → Field → Reading
-after_who text start k (field.Number who next) = after_arg text next k who (number_line arg_name text next)
-after_who text start k field.Wrong = reading.Wrong 1 start
+abbrev pub after_who : List ℕ → (start : ℕ) → Kind → Option (ℤ × ℕ) → Result (Event × ℕ) Misread
+after_who text start k (Some (who, next)) = after_arg text next k who (number_line arg_name text next)
+after_who text start k None = Err (record { line = 1; start = start })
 
-abbrev pub after_kind : List ℕ → (start : ℕ) → Named → Reading
-after_kind text start (named.Kind k next) = after_who text next k (number_line who_name text next)
-after_kind text start named.Wrong = reading.Wrong 0 start
+abbrev pub after_kind : List ℕ → (start : ℕ) → Option (Kind × ℕ) → Result (Event × ℕ) Misread
+after_kind text start (Some (k, next)) = after_who text next k (number_line who_name text next)
+after_kind text start None = Err (record { line = 0; start = start })
 
-unfoldable pub event_at : List ℕ → ℕ → Reading
+unfoldable pub event_at : List ℕ → ℕ → Result (Event × ℕ) Misread
 unfolding kind_line number_line
 event_at text at = after_kind text at (kind_line text at)
 

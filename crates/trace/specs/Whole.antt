@@ -1,21 +1,20 @@
 -- Document 01, "Trace text and report": the events of a whole text, or that a line of it is wrong or missing.
-use Rattle.std.specs.Prelude.{ℕ, zero, suc, List, [], ◌∷◌, ◌++◌, cond, leb, length}
+use Rattle.std.specs.Prelude.{ℕ, zero, suc, List, [], ◌∷◌, ◌++◌, cond, leb, length, Result, Ok, Err}
 use Rattle.std.specs.Int.{w32}
 use Rattle.std.proofs.Common.{SFits}
 use Rattle.event.specs.Kinds.{numbers_of}
 use Rattle.event.specs.declared.Event.{Event}
 use Rattle.trace.specs.Trace.{event_at, event_text}
-use Rattle.trace.specs.declared.Reading.{Reading}
-use Rattle.trace.specs.declared.Reading.TheVariants as reading
+use Rattle.trace.specs.declared.Misread.{Misread}
 
 -- the newest event first
 pub data Whole : Type 0 where
   Events : List Event → Whole
   WrongLine : Whole
 
-abbrev pub whole_by : Reading → List Event → (rest : ℕ → List Event → Whole) → Whole
-whole_by (reading.Event e next) h rest = rest next (e ∷ h)
-whole_by (reading.Wrong i start) h rest = WrongLine
+abbrev pub whole_by : Result (Event × ℕ) Misread → List Event → (rest : ℕ → List Event → Whole) → Whole
+whole_by (Ok (e, next)) h rest = rest next (e ∷ h)
+whole_by (Err w) h rest = WrongLine
 
 -- from an index of the text on, after the events h; k is at least the bytes left
 unfoldable pub events_from : (k : ℕ) → List ℕ → (at : ℕ) → List Event → Whole

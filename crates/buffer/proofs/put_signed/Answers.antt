@@ -1,11 +1,9 @@
-use Rattle.buffer.proofs.TextLaws.{end_same, put_same, nat_text, neg_text, neg_fits}
+use Rattle.std.proofs.Common.{rules}
+use Rattle.buffer.proofs.TextLaws.{below_zero, not_below_zero}
 use Rattle.buffer.proofs.put_signed.Goals as goal
 
-pub overflow_add-n : goal.overflow_add-n
-overflow_add-n c = search neg_fits
+pub returns-then-v-lt0 : goal.returns-then-v-lt0
+returns-then-v-lt0 c = rw (below_zero c.args.v c.ranges.v c.unsigned_abs-distance.ensures.value c.if-v-lt0.true) (search rules)
 
-pub returns-in-Nat : goal.returns-in-Nat
-returns-in-Nat c = record { value = search (end_same, nat_text); buf_after = search (put_same, nat_text) }
-
-pub returns-in-Neg : goal.returns-in-Neg
-returns-in-Neg c = record { value = search (end_same, neg_text); buf_after = search (put_same, neg_text) }
+pub returns-else-v-lt0 : goal.returns-else-v-lt0
+returns-else-v-lt0 c = rw (not_below_zero c.args.v c.ranges.v c.unsigned_abs-distance.ensures.value c.if-v-lt0.false) (search rules)

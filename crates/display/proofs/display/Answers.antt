@@ -1,9 +1,11 @@
 use Rattle.buffer.proofs.WholeLaws.{put_as, held_as}
-use Rattle.display.proofs.Laws.{shown, refused}
+use Rattle.display.specs.Worked.{worked_told}
 use Rattle.display.proofs.display.Goals as goal
 
-pub returns-in-Keeper : goal.returns-in-Keeper
-returns-in-Keeper c = record { value = search (put_as, shown); buf_after = search (held_as, shown) }
+pub returns-in-Ok : goal.returns-in-Ok
+unfolding worked_told
+returns-in-Ok c = record { value = search (put_as, c.in-Ok.ensures); buf_after = search (held_as, c.in-Ok.ensures) }
 
-pub returns-in-Refused : goal.returns-in-Refused
-returns-in-Refused c = record { value = search (put_as, refused); buf_after = search (held_as, refused) }
+pub returns-in-Err : goal.returns-in-Err
+unfolding worked_told
+returns-in-Err c = record { value = search (put_as, c.in-Err.ensures); buf_after = search (held_as, c.in-Err.ensures) }

@@ -1,9 +1,8 @@
 use Rattle.buffer.proofs.WholeLaws.{put_as, held_as}
-use Rattle.explainer.proofs.Laws.{asked, refused}
 use Rattle.explainer.proofs.explain.Goals as goal
 
-pub returns-in-Keeper : goal.returns-in-Keeper
-returns-in-Keeper c = record { value = search (put_as, asked); buf_after = search (held_as, asked) }
+pub returns-in-Ok : goal.returns-in-Ok
+returns-in-Ok c = record { value = search (put_as, c.in-Ok.ensures); buf_after = search (held_as, c.in-Ok.ensures) }
 
-pub returns-in-Refused : goal.returns-in-Refused
-returns-in-Refused c = record { value = search (put_as, refused); buf_after = search (held_as, refused) }
+pub returns-in-Err : goal.returns-in-Err
+returns-in-Err c = record { value = search (put_as, c.in-Err.ensures); buf_after = search (held_as, c.in-Err.ensures) }

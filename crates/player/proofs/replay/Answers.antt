@@ -4,8 +4,8 @@ use Rattle.player.proofs.replay.Goals as goal
 pub returns-then-text-gt65536 : goal.returns-then-text-gt65536
 returns-then-text-gt65536 c = record { value = search too_long; report_after = search too_long_held }
 
-pub write_report-requires-clause-text_in_bounds : goal.write_report-requires-clause-text_in_bounds
-write_report-requires-clause-text_in_bounds c = search sure_room
+pub write_report-requires : goal.write_report-requires
+write_report-requires c = search sure_room
 
 pub returns-then-text-report : goal.returns-then-text-report
 returns-then-text-report c = record { value = search (answered, sure_room); report_after = search (answered_held, sure_room) }

@@ -1,18 +1,11 @@
-use native.Mathlib.Omega.{arith}
-use Rattle.player.proofs.PlayedLaws.{len_start, len_end, len_wrong, len_event, next_within, next_less, next_line, next_length}
+use Rattle.std.proofs.Common.{ap}
+use Rattle.trace_reader.specs.Left.{readings_left}
+use Rattle.player.specs.Left.{entries_left}
+use Rattle.player.proofs.PlayedLaws.{measured_start}
 use Rattle.player.proofs.report_len.Goals as goal
 
-pub loop-at-init : goal.loop-at-init
-loop-at-init c = (omega arith, omega arith, omega arith, search len_start)
-
-pub loop-at-smaller : goal.loop-at-smaller
-loop-at-smaller c = search next_less
-
-pub loop-at-preserved : goal.loop-at-preserved
-loop-at-preserved c = (search next_within, search next_line, search next_length, search len_event)
-
-pub returns-in-Wrong : goal.returns-in-Wrong
-returns-in-Wrong c = search len_wrong
-
-pub returns : goal.returns
-returns c = search len_end
+pub loop-entry-init : goal.loop-entry-init
+loop-entry-init c =
+    let entries = c.args.entries in
+    measured_start (readings_left entries.reader) entries.line entries.keeper entries.in_range
+    (ap entries_left c.into_iter-entry-iterator.ensures.into_iter_gives)

@@ -1,22 +1,28 @@
-use mathlib.Core.Path.{refl}
-use native.Mathlib.Omega.{arith}
-use Rattle.rewriter.proofs.Laws.{start, last, wrong, within, less, end_next, again, size_again, held_again, full, full_held, stands_there}
+use Rattle.trace_reader.proofs.Left.{all_left}
+use Rattle.rewriter.proofs.Laws.{start, last, wrong, stands_there, copied, full, full_held}
 use Rattle.rewriter.proofs.rewrite.Goals as goal
 
-pub loop-at-init : goal.loop-at-init
-loop-at-init c = (omega arith, refl, refl, refl, search start)
+pub loop-reading-init : goal.loop-reading-init
+loop-reading-init c = start c.args.text.now c.args.copy.now (all_left c.into_iter-reading-iterator.ensures.into_iter_gives c.new-reading-items.ensures)
 
 pub returns-in_default : goal.returns-in_default
-returns-in_default c = record { value = search wrong; copy_after = search (stands_there, wrong) }
+returns-in_default c =
+    let e = wrong c.loop-reading.invariant (rw c.in_default.is at c.in-Some.ensures.steps) in
+    record { value = e; copy_after = stands_there c.loop-reading.invariant e }
 
-pub returns-in_default-put : goal.returns-in_default-put
-returns-in_default-put c = record { value = search full; copy_after = search full_held }
+pub returns-in_default-put_event : goal.returns-in_default-put_event
+returns-in_default-put_event c =
+    let q = rw c.in-Ok.is at c.in-Some.ensures.steps in
+    record {
+      value = full c.loop-reading.invariant q c.put_event.ensures.value c.in_default-put_event.is;
+      copy_after = full_held c.loop-reading.invariant q c.put_event.ensures.value c.in_default-put_event.is c.put_event.ensures.buf_after;
+    }
 
-pub loop-at-smaller : goal.loop-at-smaller
-loop-at-smaller c = search less
-
-pub loop-at-preserved : goal.loop-at-preserved
-loop-at-preserved c = (search within, search end_next, search size_again, search held_again, search again)
+pub loop-reading-preserved : goal.loop-reading-preserved
+loop-reading-preserved c =
+    copied c.loop-reading.invariant (rw c.in-Ok.is at c.in-Some.ensures.steps) c.put_event.ensures.value c.in-Ok-put_event.is c.put_event.ensures.buf_after
 
 pub returns : goal.returns
-returns c = record { value = search last; copy_after = search (stands_there, last) }
+returns c =
+    let e = last c.loop-reading.invariant c.in-None.ensures.steps.0 in
+    record { value = e; copy_after = stands_there c.loop-reading.invariant e }

@@ -1,20 +1,13 @@
-use mathlib.Core.Path.{refl}
-use native.Mathlib.Omega.{arith}
-use borrow.Author.Rules.{rules}
-use Rattle.rewriter.proofs.Search.{start, within, less, again, found_put, found_held, none_put, none_held}
+use Rattle.std.proofs.Common.{refl}
+use Rattle.trace_reader.proofs.Left.{all_left}
+use Rattle.rewriter.proofs.Search.{start, none_put, none_held}
 use Rattle.rewriter.proofs.wrong_line.Goals as goal
 
-pub loop-place-init : goal.loop-place-init
-loop-place-init c = (omega arith, refl, search start)
+pub loop-reading-init : goal.loop-reading-init
+loop-reading-init c = (refl, start c.args.text.now (all_left c.into_iter-reading-iterator.ensures.into_iter_gives c.new-reading-items.ensures))
 
-pub loop-place-smaller : goal.loop-place-smaller
-loop-place-smaller c = search less
+pub returns-clause-value : goal.returns-clause-value
+returns-clause-value c = none_put c.args.text.now c.args.line.now c.loop-reading.invariant.0 c.loop-reading.invariant.1 c.in-None.ensures.steps.0
 
-pub loop-place-preserved : goal.loop-place-preserved
-loop-place-preserved c = (search within, search rules, search again)
-
-pub returns-in-Wrong : goal.returns-in-Wrong
-returns-in-Wrong c = record { value = search found_put; line_after = search found_held }
-
-pub returns : goal.returns
-returns c = record { value = search none_put; line_after = search none_held }
+pub returns-clause-line_after : goal.returns-clause-line_after
+returns-clause-line_after c = none_held c.args.text.now c.args.line.now c.loop-reading.invariant.0 c.loop-reading.invariant.1 c.in-None.ensures.steps.0

@@ -1,10 +1,6 @@
-use Prim.Native.Nat.{◌≤◌, ◌-◌}
-use lib.ListN.{length}
+use Rattle.trace_reader.specs.Left.{readings_left}
 use Rattle.runner.proofs.Laws.{Stepped}
 use Rattle.runner.proofs.run.Given as goal
 
-abbrev pub invariant-loop-at : goal.invariant-loop-at
-invariant-loop-at l = (l.at ≤ length l.text) × Stepped l.text l.at l.k
-
-abbrev pub decreases-loop-at : goal.decreases-loop-at
-decreases-loop-at l = length l.text - l.at
+abbrev pub invariant-loop-reading : goal.invariant-loop-reading
+invariant-loop-reading l = Stepped l.text (readings_left l.reading-iterator) l.k

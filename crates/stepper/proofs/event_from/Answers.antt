@@ -1,8 +1,8 @@
 use Rattle.stepper.proofs.Laws.{is_event_lem, is_none}
 use Rattle.stepper.proofs.event_from.Goals as goal
 
-pub returns-in-In : goal.returns-in-In
-returns-in-In c = search is_event_lem
+pub returns : goal.returns
+returns c = search (is_event_lem, c.in_ok-place.was)
 
-pub returns-in-Out : goal.returns-in-Out
-returns-in-Out c = search is_none
+pub returns-in_err-place : goal.returns-in_err-place
+returns-in_err-place c = rw c.from_residual.ensures (search (is_none, c.in_err-place.was))

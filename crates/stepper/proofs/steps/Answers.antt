@@ -1,19 +1,14 @@
-use borrow.Author.Rules.{rules}
-use Rattle.stepper.specs.Steps.{steps_answer, steps_buffer}
-use Rattle.stepper.proofs.Laws.{uneven_refused, uneven_held, short_refused, short_held, answered, answered_held, all_fits}
+use Rattle.std.proofs.Common.{rules, ap, refl, ◌∙◌, List, ℕ}
+use Rattle.std.proofs.lemmas.List.Edits.{sets}
+use Rattle.stepper.specs.Steps.{steps_answer, steps_buffer, outcome_after, Puts}
+use Rattle.stepper.proofs.Laws.{outcome_is, outcome_long}
 use Rattle.stepper.proofs.steps.Goals as goal
 
-pub returns-then-numbers-gt0 : goal.returns-then-numbers-gt0
-unfolding steps_answer steps_buffer
-returns-then-numbers-gt0 c = record { value = search uneven_refused; outcomes_after = search uneven_held }
+pub returns-clause-value : goal.returns-clause-value
+unfolding steps_answer
+returns-clause-value c = search rules
 
-pub returns-then-outcomes-end : goal.returns-then-outcomes-end
-unfolding steps_answer steps_buffer
-returns-then-outcomes-end c = record { value = search (short_refused, rules); outcomes_after = search (short_held, rules) }
-
-pub overflow_mul-result : goal.overflow_mul-result
-overflow_mul-result c = search (all_fits, rules)
-
-pub returns : goal.returns
-unfolding steps_answer steps_buffer
-returns c = record { value = search answered; outcomes_after = search answered_held }
+pub returns-clause-outcomes_after : goal.returns-clause-outcomes_after
+unfolding steps_buffer
+returns-clause-outcomes_after c = c.put_each.ensures.told outcome_after
+    (record { size = outcome_long; put = λ e h old new at k. k.1 ∙ ap (λ (b : List ℕ). sets old.now at b) (outcome_is e h refl refl) })

@@ -1,32 +1,27 @@
-use borrow.Author.Rules.{rules}
-use borrow.Author.Tests.{not-true, not-false}
-use Rattle.trace.proofs.Places.{reached, reached_byte, byte_fits}
-use Rattle.trace.proofs.Words.{kind_short, kind_nowhere, first_passed, next_passed, kind_found, kind_fits}
+use Rattle.std.proofs.Common.{rules, sym, ◌∙◌}
+use Rattle.line.proofs.Lines.{end_from}
+use Rattle.trace.specs.Words.{kind_line, kind_named, named_by}
+use Rattle.std.specs.Prelude.{None}
+use Rattle.trace.proofs.Lines.{unended, read_as}
 use Rattle.trace.proofs.kind_line.Goals as goal
 
-pub returns-then-not-reaches : goal.returns-then-not-reaches
-returns-then-not-reaches c = search (kind_short, not-true)
+pub returns-then-text-e : goal.returns-then-text-e
+unfolding kind_line
+returns-then-text-e c = unended named_by None kind_named _ _ c.line_end-e.ensures c.if-text-e.true
 
-pub overflow_add-b : goal.overflow_add-b
-overflow_add-b c = search (byte_fits, not-false, rules)
+pub slice_bounds-kind_named-count : goal.slice_bounds-kind_named-count
+slice_bounds-kind_named-count c = search end_from
 
-pub bounds-text-at : goal.bounds-text-at
-bounds-text-at c = search (reached_byte, not-false, rules)
-
-pub loop-place-init : goal.loop-place-init
-loop-place-init c = (search rules, search first_passed)
-
-pub matched-n-requires : goal.matched-n-requires
-matched-n-requires c = search (reached, not-false, rules)
-
-pub overflow_add-result : goal.overflow_add-result
-overflow_add-result c = search (kind_fits, rules)
-
-pub returns-then-n-gt0 : goal.returns-then-n-gt0
-returns-then-n-gt0 c = search kind_found
-
-pub loop-place-preserved : goal.loop-place-preserved
-loop-place-preserved c = (search rules, search next_passed)
+pub slice_bounds-kind_named-start : goal.slice_bounds-kind_named-start
+slice_bounds-kind_named-start c = search (end_from, rules)
 
 pub returns : goal.returns
-returns c = search kind_nowhere
+unfolding kind_line
+returns c =
+    sym (read_as named_by None kind_named _ _ c.line_end-e.ensures c.if-text-e.false (sym c.in_ok-kind.was ∙ c.kind_named.ensures))
+
+pub returns-in_err-kind : goal.returns-in_err-kind
+unfolding kind_line
+returns-in_err-kind c =
+    rw c.from_residual.ensures
+    (sym (read_as named_by None kind_named _ _ c.line_end-e.ensures c.if-text-e.false (sym c.in_err-kind.was ∙ c.kind_named.ensures)))

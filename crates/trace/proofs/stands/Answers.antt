@@ -1,15 +1,11 @@
-use Rattle.trace.proofs.Places.{reached, reached_fits, part_same, part_past}
-use borrow.Author.Rules.{rules}
+use Rattle.std.proofs.Common.{length, take, drop}
+use Rattle.line.specs.Line.{same_bytes}
+use Rattle.line.proofs.Lines.{behind}
+use Rattle.line.proofs.Bytes.{same_symm}
 use Rattle.trace.proofs.stands.Goals as goal
 
-pub overflow_add-at : goal.overflow_add-at
-overflow_add-at c = search (reached_fits, rules)
-
-pub slice_bounds-same-end : goal.slice_bounds-same-end
-slice_bounds-same-end c = search reached
-
-pub returns-then-reaches : goal.returns-then-reaches
-returns-then-reaches c = search part_same
-
-pub returns-else-reaches : goal.returns-else-reaches
-returns-else-reaches c = search part_past
+pub returns : goal.returns
+unfolding same_bytes
+returns c =
+    let rest = behind c.args.text.now c.args.at c.min.result c.min.ensures in
+    rw (c.starts_with.ensures.value, rest) (same_symm c.args.bytes.now (take (length c.args.bytes.now) (drop c.args.at c.args.text.now)))

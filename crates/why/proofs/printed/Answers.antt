@@ -1,6 +1,5 @@
--- `why::printed` meets its contract. Assumes nothing.
-use Rattle.why.proofs.Laws.{end_is, held_is, counts_is}
+use Rattle.why.proofs.Laws.{end_is, held_is}
 use Rattle.why.proofs.printed.Goals as goal
 
 pub returns : goal.returns
-returns c = record { value = search end_is; prefix_len = search counts_is; lines_after = search held_is }
+returns c = record { value = search end_is; lines_after = search held_is }

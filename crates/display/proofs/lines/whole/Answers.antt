@@ -8,8 +8,8 @@ truncating_f64_to_u64-requires c =
 
 pub returns-then-is_short : goal.returns-then-is_short
 returns-then-is_short c =
-    whole_short _ c.is_short.ensures c.if-is_short.true c.truncating_f64_to_u64.ensures
-    c.below_31_bits.ensures
+    whole_short _ c.is_short.ensures c.try_from.result c.if-is_short.true c.truncating_f64_to_u64.ensures c.try_from.ensures
+    c.unwrap_or.ensures c.unwrap_or.type_inv
 
 pub returns : goal.returns
 returns c = whole_else _ c.is_short.ensures c.if-is_short.false

@@ -1,19 +1,17 @@
-use borrow.Author.Rules.{rules}
-use Rattle.stepper.proofs.Laws.{uneven_refused, uneven_held, short_refused, short_held, answered, answered_held, all_fits}
-use Rattle.reasoner.specs.Ages.{ages_answer, ages_buffer}
+use Rattle.std.proofs.Common.{rules, ap, refl, ◌∙◌, List, ℕ}
+use Rattle.std.proofs.lemmas.List.Edits.{sets}
+use Rattle.reasoner.specs.Ages.{ages_answer, ages_buffer, ages_after}
+use Rattle.reasoner.proofs.AgeLaws.{ages_is, ages_long}
 use Rattle.reasoner.proofs.aging.ages.Goals as goal
 
-pub returns-then-numbers-gt0 : goal.returns-then-numbers-gt0
-unfolding ages_answer ages_buffer
-returns-then-numbers-gt0 c = record { value = search uneven_refused; ages_after = search uneven_held }
+pub returns-clause-value : goal.returns-clause-value
+unfolding ages_answer
+returns-clause-value c = search rules
 
-pub returns-then-ages-end : goal.returns-then-ages-end
-unfolding ages_answer ages_buffer
-returns-then-ages-end c = record { value = search (short_refused, rules); ages_after = search (short_held, rules) }
-
-pub overflow_mul-result : goal.overflow_mul-result
-overflow_mul-result c = search (all_fits, rules)
-
-pub returns : goal.returns
-unfolding ages_answer ages_buffer
-returns c = record { value = search answered; ages_after = search answered_held }
+pub returns-clause-ages_after : goal.returns-clause-ages_after
+unfolding ages_buffer
+returns-clause-ages_after c =
+    c.put_each.ensures.told ages_after (record {
+      size = ages_long;
+      put = λ e h old new at k. k.1 ∙ ap (λ (b : List ℕ). sets old.now at b) (ages_is e h refl refl);
+    })

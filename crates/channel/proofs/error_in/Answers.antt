@@ -1,7 +1,0 @@
-use Rattle.channel.proofs.error_in.Goals as goal
-
-pub returns-in-Remote1 : goal.returns-in-Remote1
-returns-in-Remote1 c = cc
-
-pub returns-in-Remote2 : goal.returns-in-Remote2
-returns-in-Remote2 c = cc

@@ -1,4 +1,0 @@
-use Rattle.input.proofs.is_period.Goals as goal
-
-pub returns : goal.returns
-returns c = cc

@@ -1,4 +1,0 @@
-use Rattle.input.proofs.is_sample.Goals as goal
-
-pub returns : goal.returns
-returns c = cc

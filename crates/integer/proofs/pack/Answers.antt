@@ -1,6 +1,0 @@
-use Rattle.integer.specs.Bits.{packed}
-use Rattle.integer.proofs.pack.Goals as goal
-
-pub returns : goal.returns
-unfolding packed
-returns c = cc

@@ -1,0 +1,15 @@
+use Rattle.std.proofs.Common.{arith}
+use Rattle.std.proofs.lemmas.Result.{on_ok_weaker}
+use Rattle.display.proofs.LengthLaws.{lines_short}
+use Rattle.display.specs.Displayed.{displayed}
+use Rattle.panel.proofs.told.Goals as goal
+
+pub returns : goal.returns
+returns g c =
+    on_ok_weaker c.answered.result
+    (λ written. written displayed (record {
+      room = λ text. omega (arith, lines_short text);
+      end = λ text old new end long put. put.0;
+      held = λ text old new end long put. put.1;
+    }))
+    c.answered.ensures.written

@@ -1,6 +1,0 @@
-use Rattle.stored.specs.Stored.{fan_bytes}
-use Rattle.stored.proofs.reset.fan_reset.Goals as goal
-
-pub returns : goal.returns
-unfolding fan_bytes
-returns c = cc
