@@ -11,7 +11,8 @@ Function = collections.namedtuple("Function", "path public name parameters resul
 Import = collections.namedtuple("Import", "module name given")
 Definition = collections.namedtuple("Definition", "name kind line")
 
-HEAD = re.compile(r"\b(pub\b[^\n;{}]*?)?\bfn\s+(\w+)\s*(?:<[^>]*>)?\s*(?=\()")
+HEAD = re.compile(r"\b(pub\b[^\n;{}]*?)?\bfn\s+(\w+)\s*(?=[<(])")
+SELF = re.compile(r"\s*(&\s*(?:'\w+\s+)?(?:mut\s+)?)self\b")
 CLAUSE = re.compile(r"\b(requires|ensures)\b\*?(?:\s+\w+)?\s*(?=\{)|\{")  # a clause may have a name
 NO_CODE = re.compile(r"""//[^\n]*|/\*.*?\*/|b?"(?:\\.|[^"\\])*"|b?'(?:\\.|[^'\\])'""", re.S)
 NO_TERM = re.compile(r'\{-.*?-\}|(?<![^\s(){}.;,@"])--[^\n]*', re.S)
@@ -62,19 +63,34 @@ def closed(text, at):
     return len(text)
 
 
+def past_generics(text, at):
+    """The index of the bracket that opens a function's parameters: behind its type parameters, whose bounds may have arrows."""
+    depth = 0
+    for i in range(at, len(text)):
+        if text[i] == "(" and depth == 0:
+            return i
+        depth += (text[i] == "<") - (text[i] == ">" and text[i - 1] != "-")
+    return len(text)
+
+
 def functions(path):
     """Every function of a .rt file, with the texts of its contract's clauses."""
     text = code(path)
     for head in HEAD.finditer(text):
-        at = closed(text, head.end())
+        start = past_generics(text, head.end())
+        at = closed(text, start)
         found = CLAUSE.search(text, at)
         result = text[at : found.start() if found else at].strip().removeprefix("->").strip()
+        result = re.split(r"\bwhere\b", result)[0].strip()
         clauses = {"requires": [], "ensures": []}
         while found and found[1]:
             end = closed(text, found.end())
             clauses[found[1]].append(" ".join(NO_TERM.sub("", text[found.end() + 1 : end - 1]).split()))
             found = CLAUSE.search(text, end)
-        parameters = re.findall(r"(\w+)\s*:\s*([^,]+)", text[head.end() + 1 : at - 1])
+        given = text[start + 1 : at - 1]
+        lent_self = SELF.match(given)
+        parameters = [("self", f"{lent_self[1]}self")] if lent_self else []
+        parameters += re.findall(r"(\w+)\s*:\s*([^,]+)", given)
         yield Function(path, bool(head[1]), head[2], parameters, result, clauses["requires"], clauses["ensures"])
 
 
