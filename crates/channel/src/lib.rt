@@ -181,7 +181,7 @@ fn untouched(m: Context) -> bool
     ensures { result ≡ untouched_in m }
 {
     let none = !(input::is_restart(m.input)
-        | matches!(m.input.kind, Kind::Sample | Kind::Diode)
+        | matches!(m.input.kind, Some(Kind::Sample | Kind::Diode))
         | reads_status(m));
     none & is_on(ChannelId::Local, m) & is_on(ChannelId::Remote1, m) & is_on(ChannelId::Remote2, m)
 }

@@ -55,7 +55,7 @@ fn pointer_after(i: Input, was: u8) -> u8
     if input::is_a(Kind::Power, i) {
         return 0;
     }
-    if matches!(i.kind, Kind::Write | Kind::Point) {
+    if matches!(i.kind, Some(Kind::Write | Kind::Point)) {
         (i.arg % 256) as u8
     } else {
         was

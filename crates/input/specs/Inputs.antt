@@ -1,5 +1,5 @@
 -- An event as plain numbers, and what it is to a part of the chip. The agreement holds these tests to those of the rules.
-use Rattle.std.specs.Prelude.{ℕ, ◌%◌, Bool, true, false, cond, ◌&&◌, ◌||◌, eqb, ℤ, pos, negsuc}
+use Rattle.std.specs.Prelude.{ℕ, ◌%◌, Bool, true, false, cond, ◌&&◌, ◌||◌, eqb, ℤ, pos, negsuc, Option, Some, None}
 use Rattle.std.specs.Option.{unwrap_or}
 use Rattle.integer.specs.Bits.{bit_of}
 use Rattle.integer.specs.Range.{eighths_of}
@@ -25,15 +25,20 @@ eighths_held t = unwrap_or (eighths_of t) 2048
 abbrev pub input_of : Event → Input
 input_of e =
     record {
-      kind = kind_of e;
+      kind = Some (kind_of e);
       who = plain_of (numbers_of e).who;
       arg = plain_of (numbers_of e).arg;
       val = plain_of (numbers_of e).val;
       sample = eighths_held (numbers_of e).val;
     }
 
+-- whether it is that kind; what is no kind is none of them
+abbrev pub same_kind : Kind → Option Kind → Bool
+same_kind k None = false
+same_kind k (Some q) = eqb (place_of q) (place_of k)
+
 abbrev pub is_a : Kind → Input → Bool
-is_a k i = eqb (place_of i.kind) (place_of k)
+is_a k i = same_kind k i.kind
 
 -- the byte that a write or a count carries
 abbrev pub byte_in : Input → ℕ

@@ -16,10 +16,11 @@ const NEGATIVE: u32 = 2147483648;
 // What stands for every val that is no sample.
 const NO_SAMPLE: u16 = 2048;
 
-// The kind and the numbers of an event, each as a number from 0 up. A val is also held as a sample.
+// The kind of an event, and its numbers, each as a number from 0 up. A val is also held as a sample.
+// None: a number that is no kind's, as those from 11 up.
 #[derive(Clone, Copy)]
 pub struct Input {
-    pub kind: Kind,
+    pub kind: Option<Kind>,
     pub who: u32,
     pub arg: u32,
     pub val: u32,
@@ -42,7 +43,7 @@ fn eighths_held(v: i32) -> u16
 pub fn input_of(e: Event) -> Input
     ensures { result ≡ input_of e }
 {
-    let kind = event::kind_of(e);
+    let kind = Some(event::kind_of(e));
     let n = event::numbers_of(e);
     let who = plain(n.who);
     let arg = plain(n.arg);
@@ -62,7 +63,7 @@ pub fn input_of(e: Event) -> Input
 pub fn is_a(k: Kind, i: Input) -> bool
     ensures { result ≡ is_a k i }
 {
-    i.kind == k
+    i.kind == Some(k)
 }
 
 // The byte that a write or a count carries.

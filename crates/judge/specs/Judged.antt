@@ -1,5 +1,5 @@
 -- The replies in plain numbers: the tests of the rules, as the code makes them. `Right` holds them to the rules.
-use Rattle.std.specs.Prelude.{ℕ, ◌%◌, ◌<◌, ◌≡◌, Bool, cond, not, ◌&&◌, ◌||◌, leb, eqb, get_or, Result, Ok, Err}
+use Rattle.std.specs.Prelude.{ℕ, ◌%◌, ◌<◌, ◌≡◌, Bool, cond, not, ◌&&◌, ◌||◌, leb, eqb, get_or, Option, Some, None, Result, Ok, Err}
 use Rattle.std.specs.Int.Signed.{non_neg}
 use Rattle.part.specs.declared.ChannelId.TheVariants.{Remote1, Remote2}
 use Rattle.event.specs.declared.Refusal.{Refusal}
@@ -29,8 +29,10 @@ plain_ranges r =
       sample = cond (non_neg r.val.low) 2048 2047;
     }
 
-unfoldable pub row_of : Kind → PlainRanges
-row_of k = plain_ranges (get_or carried (place_of k) (ranges unused unused unused))
+-- what is no kind carries nothing
+unfoldable pub row_of : Option Kind → PlainRanges
+row_of None = plain_ranges (ranges unused unused unused)
+row_of (Some k) = plain_ranges (get_or carried (place_of k) (ranges unused unused unused))
 
 abbrev pub fits_row : PlainRanges → Input → Bool
 fits_row r i =

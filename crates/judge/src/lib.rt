@@ -49,16 +49,18 @@ fn no_power(s: Standing, i: Input) -> bool
 fn other_address(s: Standing, i: Input) -> bool
     ensures { result ≡ other_address_in s i }
 {
-    matches!(i.kind, Kind::Write | Kind::Point | Kind::Read | Kind::Alert)
-        & (i.who != u32::from(s.address))
+    matches!(
+        i.kind,
+        Some(Kind::Write | Kind::Point | Kind::Read | Kind::Alert)
+    ) & (i.who != u32::from(s.address))
 }
 
 fn no_part(i: Input) -> bool
     ensures { result ≡ no_part_in i }
 {
     match i.kind {
-        Kind::Sample => i.who > 2,
-        Kind::Tach | Kind::Period | Kind::Diode => !(1..=2).contains(&i.who),
+        Some(Kind::Sample) => i.who > 2,
+        Some(Kind::Tach | Kind::Period | Kind::Diode) => !(1..=2).contains(&i.who),
         _ => false,
     }
 }
@@ -66,7 +68,7 @@ fn no_part(i: Input) -> bool
 fn no_register(i: Input) -> bool
     ensures { result ≡ no_register_in i }
 {
-    matches!(i.kind, Kind::Write | Kind::Point)
+    matches!(i.kind, Some(Kind::Write | Kind::Point))
         && !u8::try_from(i.arg).is_ok_and(register::exists_at)
 }
 
@@ -97,7 +99,7 @@ fn odd_local(i: Input) -> bool
 fn not_monitoring(s: Standing, i: Input) -> bool
     ensures { result ≡ not_monitoring_in s i }
 {
-    matches!(i.kind, Kind::Sample | Kind::Tach) & !s.monitoring
+    matches!(i.kind, Some(Kind::Sample | Kind::Tach)) & !s.monitoring
 }
 
 // A sample of a channel whose diode is in error.

@@ -24,11 +24,14 @@ fn row(low: u32, high: u32, arg: u32, val: u32) -> PlainRanges
     }
 }
 
-// The row of a kind.
+// The row of a kind; what is no kind carries nothing.
 #[tactic(auto, unfolding(crate::specs::Judged::row_of))]
-pub fn row_of(kind: Kind) -> PlainRanges
+pub fn row_of(kind: Option<Kind>) -> PlainRanges
     ensures { result ≡ row_of kind }
 {
+    let Some(kind) = kind else {
+        return row(0, 0, 0, 0);
+    };
     match kind {
         Kind::Power => row(44, 46, 1, 1),
         Kind::Write => row(0, 127, BYTE, BYTE),

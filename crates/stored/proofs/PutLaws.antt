@@ -1,17 +1,18 @@
 -- The byte that an event stores, put at its address, leaves every byte as the rule has it. Assumes nothing.
 use Prim.Native.Nat.{ℕ, ◌<◌}
 use mathlib.Core.Bool.{Bool, true, false, cond, and-false, and-true, or-false}
-use mathlib.Core.Path.{◌≡◌, sym, ◌∙◌}
+use mathlib.Core.Path.{◌≡◌, refl, sym, ◌∙◌}
 use native.Mathlib.Omega.{arith}
 use borrow.Author.Tests.{eqb-true, eqb-false, eq-eqb, ne_eqb, ltb-false}
 use lib.Dec.{eqb, ltb}
-use Rattle.std.specs.Prelude.{Some, None}
+use Rattle.std.specs.Prelude.{Option, Some, None}
 use Rattle.integer.proofs.BoolLaws.{by_cases, both}
 use Rattle.part.specs.declared.FanId.TheVariants.{One, Two}
 use Rattle.event.specs.Kinds.{place_of}
+use Rattle.event.specs.declared.Kind.{Kind}
 use Rattle.event.specs.declared.Kind.TheVariants as kind
 use Rattle.rules.specs.Registers.{speed_at}
-use Rattle.input.specs.Inputs.{is_a, is_count, is_restart}
+use Rattle.input.specs.Inputs.{same_kind, is_a, is_count, is_restart}
 use Rattle.input.specs.declared.Input.{Input}
 use Rattle.stored.specs.Stored.{is_count_at, stored_after, channel_bytes, fan_bytes, bytes, registers_after, cells, found, stored_in}
 use Rattle.stored.specs.Stored.{place_in, byte_for, put_at, reset_to}
@@ -72,10 +73,15 @@ symmetric a b =
     (λ y. y ∙ sym (eq-eqb b a (sym (eqb-true a b y))))
     (λ n. n ∙ sym (ne_eqb b a (λ (e : b ≡ a). eqb-false a b n (sym e))))
 
+-- no write is a count
+one_kind : (k : Option Kind) → same_kind kind.Write k ≡ true → same_kind kind.Tach k ≡ false
+one_kind None w = refl
+one_kind (Some q) w = let e = eqb-true (place_of q) 1 w in rw e
+
 module _ (i : Input) where
-  -- no write is a count, no count of fan 1 is one of fan 2
+  -- nor is a count of fan 1 one of fan 2
   no_count : is_a kind.Write i ≡ true → is_a kind.Tach i ≡ false
-  no_count w = let e = eqb-true (place_of i.kind) 1 w in rw e
+  no_count w = one_kind i.kind w
 
   other_fan_lem : is_count One i ≡ true → is_count Two i ≡ false
   other_fan_lem y = let e = eqb-true i.who 1 (both (is_a kind.Tach i) _ y).1 in rw (e, and-false)

@@ -12,9 +12,9 @@ pub fn place_in(i: Input) -> Option<u8>
     ensures { result ≡ place_in i }
 {
     match (i.kind, i.who) {
-        (Kind::Write, _) => u8::try_from(i.arg).ok(),
-        (Kind::Tach, 1) => Some(0x08),
-        (Kind::Tach, 2) => Some(0x09),
+        (Some(Kind::Write), _) => u8::try_from(i.arg).ok(),
+        (Some(Kind::Tach), 1) => Some(0x08),
+        (Some(Kind::Tach), 2) => Some(0x09),
         _ => None,
     }
 }
