@@ -18,6 +18,8 @@ fn row(mask: u8, reset: u8) -> Option<Listed>
 }
 
 // What there is at an address.
+// Inlined, so that whether there is a register is a test of one bit, and no row is put together for it: an image asks 64 times.
+#[inline(always)]
 #[tactic(auto, unfolding(crate::specs::Entries::entry_of, rules::specs::Registers::says, rules::specs::Registers::table))]
 fn entry_at(a: u8) -> Option<Listed>
     ensures { result ≡ entry_of a }
