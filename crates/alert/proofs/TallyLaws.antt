@@ -1,7 +1,7 @@
 -- What is made of a row's tally is what the rule says of the row. Assumes nothing.
-use Prim.Native.Nat.{ℕ, ◌≤◌}
-use mathlib.Core.Path.{◌≡◌, refl, ap, ◌∙◌}
-use mathlib.Core.Bool.{Bool, true, false, cond, not, ◌&&◌, ◌||◌, or-false}
+use Prim.Native.Nat.{ℕ, ◌≤◌, min}
+use mathlib.Core.Path.{◌≡◌, refl, ◌∙◌}
+use mathlib.Core.Bool.{Bool, true, false, cond, not, ◌&&◌, ◌||◌, and-true, or-false}
 use mathlib.Core.List.{List, [], ◌∷◌, map}
 use native.Mathlib.Omega.{arith}
 use lib.Dec.{leb, eqb}
@@ -11,10 +11,10 @@ use Rattle.event.specs.declared.AlertEntry.{AlertEntry}
 use Rattle.rules.specs.AlertRow.{outside_in, has_address, twice_in, asserts_in, lowest_asserting, row_answer, let_go_at, row_after}
 use Rattle.event.specs.declared.Refusal.{Refusal}
 use Rattle.event.specs.declared.Refusal.TheVariants.{NoAlert}
-use Rattle.std.specs.Prelude.{Some, None, Result, Ok, Err}
-use Rattle.std.specs.Option.{unwrap_or}
+use Rattle.std.specs.Prelude.{Option, Some, None, Result, Err}
+use Rattle.std.specs.Option.{is_some, unwrap_or}
 use Rattle.alert.specs.declared.Tally.{Tally}
-use Rattle.alert.specs.Tally.{released_by, no_entries, counted_of, tally_of, answered_of}
+use Rattle.alert.specs.Tally.{no_entries, lower_of, counted_of, tally_of, answered_of, is_refused, released_of}
 
 -- ---- the fields, one by one
 
@@ -44,21 +44,26 @@ tally_has46 : (row : List AlertEntry) → (tally_of row).has46 ≡ has_address 4
 unfolding has_address
 tally_has46 = tally_some (λ t. t.has46) (has_address 46) (λ e. eqb e.address 46) refl (λ t e. refl) (λ e row. refl)
 
-none_asserts : (row : List AlertEntry) → asserts_in row ≡ false → lowest_asserting row ≡ 255
-unfolding asserts_in lowest_asserting
-none_asserts [] p = refl
-none_asserts (e ∷ row) p = let n = neither e.asserting (asserts_in row) p in rw (n.0, none_asserts row n.1)
+tally_asserts : (row : List AlertEntry) → is_some (tally_of row).lowest ≡ asserts_in row
+unfolding asserts_in
+tally_asserts = tally_some (λ t. is_some t.lowest) asserts_in (λ e. e.asserting) refl (λ t e. by_cases e.asserting (λ p. rw p) (λ p. rw p)) (λ e row. refl)
 
 -- the lowest address of those that assert, 255 where none does
-least : (row : List AlertEntry) → unwrap_or (cond (asserts_in row) (Some (lowest_asserting row)) None) 255 ≡ lowest_asserting row
-least row = by_cases (asserts_in row) (λ p. rw p) (λ p. rw (p, none_asserts row p))
+lower_is : (e : AlertEntry) (lowest : Option ℕ)
+    → unwrap_or (lower_of e lowest) 255 ≡ cond e.asserting (min e.address (unwrap_or lowest 255)) (unwrap_or lowest 255)
+lower_is e lowest = by_cases e.asserting (λ p. rw p) (λ p. rw p)
+
+tally_least : (row : List AlertEntry) → unwrap_or (tally_of row).lowest 255 ≡ lowest_asserting row
+unfolding tally_of lowest_asserting
+tally_least [] = refl
+tally_least (e ∷ row) = lower_is e (tally_of row).lowest ∙ rw (tally_least row)
 
 tally_lowest : (row : List AlertEntry) → (tally_of row).lowest ≡ cond (asserts_in row) (Some (lowest_asserting row)) None
-unfolding tally_of asserts_in lowest_asserting
-tally_lowest [] = refl
-tally_lowest (e ∷ row) =
-    rw (tally_lowest row, least row)
-    (by_cases e.asserting (λ p. rw p) (λ p. rw p))
+tally_lowest row = whole (tally_of row).lowest ∙ rw (tally_asserts row, tally_least row)
+  where
+    whole : (lowest : Option ℕ) → lowest ≡ cond (is_some lowest) (Some (unwrap_or lowest 255)) None
+    whole None = refl
+    whole (Some a) = refl
 
 -- an address from 44 to 46 is one of the three
 at_address : (h : ℕ → Bool) (a : ℕ) → 44 ≤ a → a ≤ 46 → ((eqb a 44 && h 44) || ((eqb a 45 && h 45) || (eqb a 46 && h 46))) ≡ h a
@@ -95,36 +100,19 @@ answered_row row =
     cond_same true = refl
     cond_same false = refl
 
-row_kept : (row : List AlertEntry) {r : Refusal} → Err r ≡ row_answer row → row ≡ row_after row
-unfolding row_answer row_after
-row_kept row e =
+released_none : (t : Tally) → is_refused t ≡ true → (row : List AlertEntry) → map (released_of t) row ≡ row
+released_none t p [] = refl
+released_none t p (e ∷ row) = rw (p, and-true e.asserting, released_none t p row)
+
+released_found : (t : Tally) → is_refused t ≡ false → (row : List AlertEntry) → map (released_of t) row ≡ map (let_go_at (unwrap_or t.lowest 255)) row
+released_found t p [] = refl
+released_found t p (e ∷ row) = rw (p, released_found t p row)
+
+pub released_row : (row : List AlertEntry) → map (released_of (tally_of row)) row ≡ row_after row
+unfolding row_after row_answer
+released_row row =
     by_cases (outside_in row)
-    (λ p. rw p)
-    (λ p. by_cases (not (asserts_in row) || twice_in row) (λ q. rw (p, q)) (λ q. let k = rw (p, q) at e in cc))
-
-lowest_is : (row : List AlertEntry) {a : ℕ} → Ok a ≡ row_answer row → a ≡ lowest_asserting row
-unfolding row_answer
-lowest_is row e =
-    by_cases (outside_in row)
-    (λ p. let k = rw p at e in cc)
-    (λ p. by_cases (not (asserts_in row) || twice_in row) (λ q. let k = rw (p, q) at e in cc) (λ q. let k = rw (p, q) at e in cc))
-
-module _ (row : List AlertEntry) {t : Tally} (tallied : t ≡ tally_of row) where
-  of_row : answered_of t ≡ row_answer row
-  of_row = ap answered_of tallied ∙ answered_row row
-
-  pub refused : {r : Refusal} → Err r ≡ answered_of t → (Err r ≡ row_answer row) × (row ≡ row_after row)
-  refused e = (e ∙ of_row, row_kept row (e ∙ of_row))
-
-  pub done : {a : ℕ} {after : List AlertEntry} → Ok a ≡ answered_of t → after ≡ map (let_go_at a) row
-      → (Ok a ≡ row_answer row) × (after ≡ row_after row)
-  unfolding row_after
-  done e q = (e ∙ of_row, q ∙ rw (← e ∙ of_row, ← lowest_is row (e ∙ of_row)))
-
--- of every row, refused or not
-pub released_row : (row : List AlertEntry) → released_by (answered_of (tally_of row)) row ≡ row_after row
-released_row row = go (answered_of (tally_of row)) refl
-  where
-    go : (r : Result ℕ Refusal) → r ≡ answered_of (tally_of row) → released_by r row ≡ row_after row
-    go (Ok lowest) q = (done row refl q refl).1
-    go (Err r) q = (refused row refl q).1
+    (λ p. rw p (released_none (tally_of row) (rw (tally_outside row, p)) row))
+    (λ p. by_cases (not (asserts_in row) || twice_in row)
+    (λ q. rw (p, q) (released_none (tally_of row) (rw (tally_outside row, p, tally_asserts row, tally_twice row p, q)) row))
+    (λ q. rw (p, q, ← tally_least row) (released_found (tally_of row) (rw (tally_outside row, p, tally_asserts row, tally_twice row p, q)) row)))

@@ -1,10 +1,9 @@
 -- A row of alert entries, counted one by one from its last: what the code knows of the entries so far, and what it makes of that.
-use Rattle.std.specs.Prelude.{ℕ, min, false, cond, not, ◌&&◌, ◌||◌, List, [], ◌∷◌, map, leb, eqb, Option, Some, None, Result, Ok, Err}
-use Rattle.std.specs.Option.{unwrap_or, ok_or}
+use Rattle.std.specs.Prelude.{ℕ, min, Bool, false, cond, not, ◌&&◌, ◌||◌, List, [], ◌∷◌, leb, eqb, Option, Some, None, Result, Err}
+use Rattle.std.specs.Option.{is_none, unwrap_or, ok_or}
 use Rattle.event.specs.declared.AlertEntry.{AlertEntry}
 use Rattle.event.specs.declared.Refusal.{Refusal}
 use Rattle.event.specs.declared.Refusal.TheVariants.{OutOfRange, NoAlert}
-use Rattle.rules.specs.AlertRow.{let_go_at}
 use Rattle.alert.specs.declared.Tally.{Tally}
 
 abbrev pub no_entries : Tally
@@ -28,10 +27,16 @@ unfoldable pub tally_of : List AlertEntry → Tally
 tally_of [] = no_entries
 tally_of (e ∷ row) = counted_of (tally_of row) e
 
+-- such a row is refused where one is outside, or has no alert
+abbrev pub has_no_alert : Tally → Bool
+has_no_alert t = is_none t.lowest || t.twice
+
+abbrev pub is_refused : Tally → Bool
+is_refused t = t.outside || has_no_alert t
+
+-- what becomes of an entry: the one that answers is let go, and none of a row that is refused
+abbrev pub released_of : Tally → AlertEntry → AlertEntry
+released_of t e = record { address = e.address; asserting = e.asserting && not (not (is_refused t) && eqb e.address (unwrap_or t.lowest 255)) }
+
 abbrev pub answered_of : Tally → Result ℕ Refusal
 answered_of t = cond t.outside (Err OutOfRange) (cond t.twice (Err NoAlert) (ok_or t.lowest NoAlert))
-
--- the row after such an answer: the entry that answers is let go, and none where it is a refusal
-abbrev pub released_by : Result ℕ Refusal → List AlertEntry → List AlertEntry
-released_by (Ok lowest) row = map (let_go_at lowest) row
-released_by (Err r) row = row

@@ -2,8 +2,8 @@
 // The search at the alert response address of the SMBus specification, 0x0C: of the keepers on one alert line that assert it, the lowest
 // address answers and lets go. It works on a lent row alone, one entry for each keeper.
 ghost use Rattle.std.specs.Prelude.{◌≡◌};
-ghost use Rattle.rules.specs.AlertRow.{row_answer, row_after, let_go_at};
-ghost use Rattle.alert.specs.Tally.{no_entries, lower_of, counted_of, tally_of, answered_of};
+ghost use Rattle.rules.specs.AlertRow.{row_answer, row_after};
+ghost use Rattle.alert.specs.Tally.{no_entries, lower_of, counted_of, tally_of, released_of, answered_of};
 
 use event::{AlertEntry, Refusal};
 
@@ -73,12 +73,13 @@ fn answered(t: Tally) -> Result<u8, Refusal>
 }
 
 // An entry of the row, let go where it is the one that answers.
-fn let_go(e: AlertEntry, lowest: u8) -> AlertEntry
-    ensures { result ≡ let_go_at lowest e }
+fn released(t: Tally, e: AlertEntry) -> AlertEntry
+    ensures { result ≡ released_of t e }
 {
+    let refused = t.outside | (t.lowest.is_none() | t.twice);
     AlertEntry {
         address: e.address,
-        asserting: e.asserting && e.address != lowest,
+        asserting: e.asserting & !(!refused & (e.address == t.lowest.unwrap_or(u8::MAX))),
     }
 }
 
@@ -94,9 +95,9 @@ fn tallied(row: &[AlertEntry]) -> Tally
 pub fn respond(row: &mut [AlertEntry]) -> Result<u8, Refusal>
     ensures { (result ≡ row_answer row.old) × (row.new ≡ row_after row.old) }
 {
-    let lowest = answered(tallied(row))?;
+    let tally = tallied(row);
     for entry in row.iter_mut() {
-        *entry = let_go(*entry, lowest);
+        *entry = released(tally, *entry);
     }
-    Ok(lowest)
+    answered(tally)
 }
