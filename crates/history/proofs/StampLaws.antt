@@ -19,7 +19,7 @@ use Rattle.input.specs.Inputs.{input_of}
 use Rattle.device.specs.Stamping.{stamp_after, stamps_after}
 use Rattle.keeper.specs.Keeping.{stamp_by}
 use Rattle.reason.specs.Reasoning.{why_in, why_of}
-use Rattle.reason.specs.Aging.{explanation_of, aged_of}
+use Rattle.reason.specs.Aging.{age_in, age_with, explanation_of, aged_of}
 use Rattle.history.proofs.State.{fan_by, chip_by, stamps_by, device_by, state_by}
 use Rattle.history.proofs.AcceptedLaws.{restart_is}
 use Rattle.history.proofs.ReasonLaws.{why_is}
@@ -54,7 +54,7 @@ stamp_is {d} t =
 -- of the fan of a number: the age, alone and beside the reason
 told : (d : Taken) (fan : ℤ)
     → (aged_of (state_by d) fan ≡ age_for fan d) × (explanation_of (state_by d) fan ≡ told_both (why_of (state_by d) fan) (age_for fan d))
-unfolding aged_of explanation_of age_for why_of why_in state_by device_by stamps_by age
+unfolding aged_of explanation_of age_with age_in age_for why_of why_in state_by device_by stamps_by age
 told d fan =
     by_cases (powered d)
     (λ on. by_cases (is_number fan 1)
