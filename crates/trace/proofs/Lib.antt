@@ -8,3 +8,4 @@ pub mod RoundTrip
 pub mod Canonical
 pub mod WholeLaws
 pub mod Finding
+pub mod Near

@@ -62,16 +62,18 @@ fn kind_named(line: &[u8]) -> Option<Kind>
         .find(|kind| same(word, word_of(*kind)))
 }
 
-// The line at `at` as a kind, ended by a newline.
+// The line at `at` as a kind, ended by a newline. The longest has 12 bytes with it, and no more are looked at, however long a line is.
 fn kind_line(text: &[u8], at: usize) -> Option<(Kind, usize)>
     ensures { result ≡ kind_line text.now at }
 {
-    let e = line_end(text, at);
-    if text.len() <= e {
+    let rest = &text[at.min(text.len())..];
+    let near = &rest[..rest.len().min(12)];
+    let e = line_end(near, 0);
+    if near.len() <= e {
         return None;
     }
-    let kind = kind_named(&text[at..e])?;
-    Some((kind, e + 1))
+    let kind = kind_named(&near[..e])?;
+    Some((kind, at + e + 1))
 }
 
 // The line at `at` as a decimal, ended by a newline. Most have one digit.
