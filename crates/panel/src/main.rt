@@ -1,13 +1,13 @@
 #![tactic(auto)]
 // Prints the panel after the last event of the trace on standard input: tenths of a degree, revolutions a minute.
 // The buffer holds the longest lines, so that the program never falls silent.
-ghost use Rattle.std.specs.Prelude.{◌≡◌, ◌≤◌, length, take, IfSome, OnOk};
+ghost use Rattle.std.specs.Prelude.{◌≡◌, ◌≤◌, length, take, drop, IfSome, IfErr, OnOk, Some};
 ghost use Rattle.std.proofs.lemmas.List.Edits.{sets};
 ghost use Rattle.std.specs.Io.KnownBytes.{Appends};
+ghost use Rattle.program.specs.Telling.{before_writing};
 ghost use Rattle.display.specs.Displayed.{displayed};
 
 use program::Failure;
-use std::alloc::Global;
 use std::io::{self, Read, Write};
 
 // Five lines of at most 20 bytes.
@@ -23,14 +23,17 @@ fn printed(text: &[u8], lines: &mut [u8]) -> usize
 }
 
 // What is told of all that is read, up to one byte more than a text may have, is written, and nothing else.
-fn told<R: Read, W: Write>(alloc: Global, reader: &mut R, writer: &mut W) -> Result<(), Failure>
-    ensures { OnOk result (IfSome (R.remaining reader.old) (λ input.
+fn told<R: Read, W: Write>(reader: &mut R, writer: &mut W) -> Result<(), Failure>
+    ensures read { OnOk result (IfSome (R.remaining reader.old) (λ input. R.remaining reader.new ≡ Some (drop 65537 input))) }
+    ensures written { OnOk result (IfSome (R.remaining reader.old) (λ input.
         Appends (W.contents writer.old) (W.contents writer.new) (displayed (take 65537 input)))) }
+    ensures unwritten { IfErr result (λ failure. before_writing failure → writer.new ≡ writer.old) }
 {
-    program::answered(alloc, reader, writer, LONGEST, printed)
+    let mut lines = [0; LONGEST];
+    program::answered(reader, writer, &mut lines, printed)
 }
 
 fn main(rt: HostRuntime) -> io::Result<()> {
-    let end = told(rt.alloc(), &mut rt.stdin(), &mut rt.stdout());
+    let end = told(&mut rt.stdin(), &mut rt.stdout());
     program::ended(&rt, "panel", "the panel", end)
 }

@@ -1,2 +1,3 @@
+mod Filling
 pub mod Kept
 mod Reading

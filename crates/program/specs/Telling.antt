@@ -3,7 +3,7 @@ use Rattle.std.specs.Prelude.{◌≡◌, ℕ, ◌≤◌, List, length, ⊤}
 use Rattle.std.specs.Borrow.{Bor, MutBor}
 use Rattle.std.proofs.lemmas.List.Edits.{sets}
 use Rattle.program.specs.declared.Failure.{Failure}
-use Rattle.program.specs.declared.Failure.TheVariants.{Unread, NoMemory, Unwritten}
+use Rattle.program.specs.declared.Failure.TheVariants.{Unread, Unwritten}
 
 -- lines may be put for each text into a buffer of so many bytes
 abbrev pub CanTell : (pre : Bor (List ℕ) → MutBor (List ℕ) → Type 0) → (longest : ℕ) → Type 0
@@ -19,5 +19,4 @@ pub record PutsBy (post : Bor (List ℕ) → MutBor (List ℕ) → ℕ → MutBo
 -- nothing was to be written yet
 abbrev pub before_writing : Failure → Type 0
 before_writing (Unread error) = ⊤
-before_writing (NoMemory error) = ⊤
 before_writing (Unwritten error) = ⊥

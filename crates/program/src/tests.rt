@@ -48,7 +48,7 @@ fn with_a_stop(text: &[u8], buffer: &mut [u8]) -> usize {
 fn answers_what_was_read(rt: HostRuntime) -> Result<(), Fail> {
     let mut written = Vec::new(rt.alloc());
     let mut reader = b"abcdefg".as_slice();
-    answered(rt.alloc(), &mut reader, &mut written, 20, with_a_stop)?;
+    answered(&mut reader, &mut written, &mut [0; 20], with_a_stop)?;
     assert_eq!(rt; written.as_slice(), b"abcdefg.".as_slice());
     ended(&rt, "replay", "the report", Ok(()))?;
     Ok(())
@@ -61,7 +61,7 @@ fn writes_nothing_after_a_failed_read(rt: HostRuntime) {
         inner: b"abcdefg".as_slice(),
         left: 2,
     };
-    let end = answered(rt.alloc(), &mut reader, &mut written, 20, with_a_stop);
+    let end = answered(&mut reader, &mut written, &mut [0; 20], with_a_stop);
     assert!(rt; matches!(end, Err(Failure::Unread(_))));
     assert!(rt; written.is_empty());
 }
@@ -73,7 +73,7 @@ fn tells_a_failed_write(rt: HostRuntime) {
         inner: Vec::new(rt.alloc()),
         left: 2,
     };
-    let end = answered(rt.alloc(), &mut reader, &mut writer, 20, with_a_stop);
+    let end = answered(&mut reader, &mut writer, &mut [0; 20], with_a_stop);
     assert!(rt; matches!(end, Err(Failure::Unwritten(_))));
     assert_eq!(rt; writer.inner.as_slice(), b"abcdef".as_slice());
     assert!(rt; ended(&rt, "replay", "the report", end).is_err());
@@ -81,7 +81,8 @@ fn tells_a_failed_write(rt: HostRuntime) {
 
 #[test]
 fn keeps_what_was_put(rt: HostRuntime) -> Result<(), Fail> {
-    let kept = lines(rt.alloc(), b"a", 4, with_a_stop)?;
+    let mut kept = Vec::new(rt.alloc());
+    answered(&mut b"a".as_slice(), &mut kept, &mut [0; 4], with_a_stop)?;
     assert_eq!(rt; kept.as_slice(), b"a.".as_slice());
     Ok(())
 }

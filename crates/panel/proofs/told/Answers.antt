@@ -4,8 +4,8 @@ use Rattle.display.proofs.LengthLaws.{lines_short}
 use Rattle.display.specs.Displayed.{displayed}
 use Rattle.panel.proofs.told.Goals as goal
 
-pub returns : goal.returns
-returns g c =
+pub returns-clause-written : goal.returns-clause-written
+returns-clause-written g c =
     on_ok_weaker c.answered.result
     (λ written. written displayed (record {
       room = λ text. omega (arith, lines_short text);

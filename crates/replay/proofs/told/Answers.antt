@@ -4,8 +4,8 @@ use Rattle.replay.proofs.Laws.{printed_room}
 use Rattle.player.specs.Report.{printed_of}
 use Rattle.replay.proofs.told.Goals as goal
 
-pub returns : goal.returns
-returns g c =
+pub returns-clause-written : goal.returns-clause-written
+returns-clause-written g c =
     on_ok_weaker c.answered.result
     (λ written. written printed_of (record {
       room = λ text. omega (arith, printed_room text);

@@ -4,8 +4,8 @@ use Rattle.explainer.proofs.LengthLaws.{lines_short}
 use Rattle.explainer.specs.Explained.{explained}
 use Rattle.why.proofs.told.Goals as goal
 
-pub returns : goal.returns
-returns g c =
+pub returns-clause-written : goal.returns-clause-written
+returns-clause-written g c =
     on_ok_weaker c.answered.result
     (λ written. written explained (record {
       room = λ text. omega (arith, lines_short text);
