@@ -50,6 +50,7 @@ where
 }
 
 /// Reads until the input has ended or the buffer is full, and answers how many bytes it holds then.
+// Stays: a `while`, since each read brings as much as it likes, and no iterator of std reads into a lent buffer.
 fn filled<R: Read>(reader: &mut R, buffer: &mut [u8]) -> io::Result<usize>
     ensures within { IfOk result (λ len. len ≤ length buffer.new) }
     ensures text { IfOk result (λ len. IfSome (R.remaining reader.old) (λ input. take len buffer.new ≡ take (length buffer.old) input)) }
