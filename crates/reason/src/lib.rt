@@ -123,6 +123,8 @@ fn fan_numbered(fan: i32) -> Result<FanId, Refusal>
 
 // Why the fan of a number has its duty, and its age: 1 before the first power, 3 for a number that is neither fan's.
 // Stays: a fan by number, here and in `age`: README promises 3 for one that is no fan's.
+// Inlined, so that of a keeper without power no device is copied.
+#[inline(always)]
 pub fn why(k: Keeper, fan: i32) -> Result<Explanation, Refusal>
     ensures { result ≡ explanation_of k fan }
 {
