@@ -5,7 +5,7 @@ use Rattle.std.proofs.Math.Seq.{take-append-add}
 use Rattle.std.proofs.lemmas.List.{take-append-le, length-take-le, append_assoc}
 use borrow.Rule.Slice.PartMut.{put_mid, post_of}
 
-joined : (start now next : Option (List ℕ)) (a b : List ℕ) → Consumes start now a → Consumes now next b → Consumes start next (a ++ b)
+pub joined : (start now next : Option (List ℕ)) (a b : List ℕ) → Consumes start now a → Consumes now next b → Consumes start next (a ++ b)
 joined None now next a b p q = tt
 joined (Some xs) None next a b p q = absurd p
 joined (Some xs) (Some ys) None a b p q = absurd q

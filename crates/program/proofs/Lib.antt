@@ -1,3 +1,4 @@
 mod Filling
+mod Growing
 pub mod Kept
 mod Reading

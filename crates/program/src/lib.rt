@@ -1,6 +1,7 @@
 //! What the programs do alike: a trace text is read, and what is told of it is written.
 #![tactic(auto)]
 
+mod heap;
 #[cfg(test)]
 mod tests;
 
@@ -9,12 +10,13 @@ ghost use Rattle.std.proofs.lemmas.List.Edits.{sets};
 ghost use Rattle.std.specs.Io.KnownBytes.{Appends};
 ghost use Rattle.program.specs.Telling.{CanTell, PutsBy, before_writing};
 
+pub use heap::{answered, lines};
 use std::io::{self, Read, Write};
 
 /// One byte more than a text may have.
 const LONGEST: usize = 65537;
 
-/// Why a text was not answered.
+/// Why a text was not answered: it was not read, or there was no memory for its lines; or these were not written.
 #[derive(Debug, Drop)]
 pub enum Failure {
     Unread(io::Error),
@@ -23,7 +25,7 @@ pub enum Failure {
 
 /// Reads a text to its end, or until it is too long for a text, and writes the lines that `put` puts for exactly that into the
 /// lent buffer. Where it was not read, nothing is put or written.
-pub fn answered<R, W, F>(
+pub fn answered_into<R, W, F>(
     reader: &mut R,
     writer: &mut W,
     lines: &mut [u8],

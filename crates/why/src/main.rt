@@ -30,7 +30,7 @@ fn told<R: Read, W: Write>(reader: &mut R, writer: &mut W) -> Result<(), Failure
     ensures unwritten { IfErr result (λ failure. before_writing failure → writer.new ≡ writer.old) }
 {
     let mut lines = [0; LONGEST];
-    program::answered(reader, writer, &mut lines, printed)
+    program::answered_into(reader, writer, &mut lines, printed)
 }
 
 fn main(rt: HostRuntime) -> io::Result<()> {

@@ -6,10 +6,10 @@ use Rattle.panel.proofs.told.Goals as goal
 
 pub returns-clause-written : goal.returns-clause-written
 returns-clause-written g c =
-    on_ok_weaker c.answered.result
+    on_ok_weaker c.answered_into.result
     (λ written. written displayed (record {
       room = λ text. omega (arith, lines_short text);
       end = λ text old new end long put. put.0;
       held = λ text old new end long put. put.1;
     }))
-    c.answered.ensures.written
+    c.answered_into.ensures.written
